@@ -22,7 +22,7 @@ pub mod Field
 pub mod Restriction
 pub mod Operators
 pub mod FreeOf
-pub mod Parts
+pub mod Coefficients
 pub mod Certificate
 pub mod AlgebraLaws
 pub mod Laws
