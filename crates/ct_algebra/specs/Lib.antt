@@ -24,5 +24,9 @@ pub mod Operators
 pub mod FreeOf
 pub mod Coefficients
 pub mod Certificate
-pub mod AlgebraLaws
+pub mod OnPolynomials
+pub mod PolynomialLaws
+pub mod SymbolLaws
+pub mod OperatorLaws
+pub mod FieldLaws
 pub mod Laws
