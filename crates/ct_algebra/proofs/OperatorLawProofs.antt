@@ -1,19 +1,18 @@
--- The proofs of specs/OperatorLaws: the laws of finite sums and of operators over any Ore ring, read at operators.
--- A product with one factor a polynomial or a symbol is what the other becomes in the module of operators.
+-- The proofs of specs/OperatorLaws: the laws of finite sums and of the product, read at operators, and what operators
+-- make of the module of polynomials.
 use Rattle.std.specs.Prelude.{◌≡◌, refl, [], ◌∷◌}
 use Rattle.std.proofs.Common.{sym, ◌∙◌, ap}
 use Rattle.ct_algebra.specs.Sums.{at, same_sum, at-⊕, at-none, at-negated, at-sum_of}
-use Rattle.ct_algebra.specs.Monomial.{Mono, monomials, products, ◌·◌, unit}
-use Rattle.ct_algebra.specs.Names.{Name, symbol, symbols, power, power_unit, power-symbol}
+use Rattle.ct_algebra.specs.Monomial.{monomials, unit}
+use Rattle.ct_algebra.specs.Names.{Name, symbol, power_unit, power-symbol}
 use Rattle.ct_algebra.specs.Polynomial.{Polynomial, polys, plus, times}
-use Rattle.ct_algebra.specs.Actions.{Action, sigma, delta, sigma_by, delta_by, polynomials}
-use Rattle.ct_algebra.specs.Ore.{Module}
-use Rattle.ct_algebra.specs.OreAlgebra.{◌∘◌, one_term, op_D-one_term, op_module, D_D_is}
-use Rattle.ct_algebra.specs.Operators.{Operator, operator_set, operator_group, operator_of, term_of, no_operator, sum_of_operators, negative, product_of, symbol_before, multiple, product_of_assoc, product_of-sum, product_of-sum_left, apply, apply-product_of}
+use Rattle.ct_algebra.specs.Actions.{Action, sigma_by, delta_by}
+use Rattle.ct_algebra.specs.Operators.{operator_group, operator_of, term_of, no_operator, sum_of_operators, negative, product_of_assoc, product_of-sum, product_of-sum_left, apply-product_of}
 use Rattle.ct_algebra.specs.OnPolynomials.{on_polynomials, symbol_by, by_symbol, made_of}
-use Rattle.ct_algebra.specs.OperatorLaws.{OperatorsAreAGroup, OperatorsAreFiniteMaps, OperatorsAreSumsOfTerms, ProductFollowsRule, ProductDistributes, ProductIsAssociative, ProductActsOnPolynomials}
-use Rattle.ct_algebra.proofs.AppliedOperators.{apply-sum, apply-term_of, multiple-one}
+use Rattle.ct_algebra.specs.OperatorLaws.{OperatorsAreAGroup, OperatorsAreFiniteMaps, OperatorsAreSumsOfTerms, ProductFollowsRule, ProductHasUnit, ProductDistributes, ProductIsAssociative, ProductActsOnPolynomials}
+use Rattle.ct_algebra.proofs.AppliedOperators.{apply-sum, apply-term_of}
 use Rattle.ct_algebra.proofs.OperatorTerms.{at-term_of, pick-same, pick-other, at-multiple}
+use Rattle.ct_algebra.proofs.ProductRule.{product_of-polynomial, product_of-symbol, symbol_before-term_of, one-product_of, product_of-one}
 use Rattle.ct_algebra.proofs.TermProducts.{sum_of-append, sum_of-one, sum_of-none}
 
 pub group : OperatorsAreAGroup
@@ -48,39 +47,17 @@ sums_of_terms = record {
       same_sum monomials polys.group _ _ (λ m. at-sum_of monomials polys.group p.terms m ∙ unfold at in refl);
 }
 
--- ---- the rule
-
--- operators as a module of operators
-abbrev before : (a : Name → Action) → Module polys (polynomials a) Operator
-before a = op_module monomials products polys (polynomials a) symbols operator_set
-
-product-term_of :
-    (a : Name → Action) (m : Mono) (c : Polynomial) (p : Operator) →
-    product_of a (term_of m c) p ≡ multiple a c (power (symbol_before a) m p)
-unfolding product_of ◌∘◌ apply multiple symbol_before
-product-term_of a m c p = apply-term_of a (before a) m c p
-
-symbols_commute :
-    (a : Name → Action) (i j : Name) (p : Operator) →
-    symbol_before a i (symbol_before a j p) ≡ symbol_before a j (symbol_before a i p)
-unfolding symbol_before
-symbols_commute a i j p = D_D_is monomials products polys (polynomials a) symbols operator_set i j p
-
-symbol_before-term_of :
-    (a : Name → Action) (i : Name) (m : Mono) (c : Polynomial) →
-    symbol_before a i (term_of m c) ≡
-    sum_of_operators (term_of (symbol i · m) (sigma a i c)) (term_of m (delta a i c))
-unfolding symbol_before sum_of_operators term_of one_term
-symbol_before-term_of a i m c = op_D-one_term monomials products polys (polynomials a) symbols operator_set i m c
+-- ---- products
 
 pub follows_rule : ProductFollowsRule
 follows_rule = record {
-  polynomials_before = λ a c p. product-term_of a unit c p ∙ ap (multiple a c) (power_unit (symbol_before a) p);
-  symbols_before = λ a i p.
-      product-term_of a (symbol i) polys.one p ∙ multiple-one a _
-      ∙ power-symbol (symbol_before a) (symbols_commute a) i p;
+  polynomials_before = product_of-polynomial;
+  symbols_before = product_of-symbol;
   passes = symbol_before-term_of;
 }
+
+pub has_unit : ProductHasUnit
+has_unit = record { before = one-product_of; behind = product_of-one }
 
 pub distributes : ProductDistributes
 distributes = record { over_right = product_of-sum; over_left = product_of-sum_left }

@@ -3,6 +3,7 @@
 --     OperatorsAreFiniteMaps        equal coefficients are equal operators; coefficients of terms, sums and negatives
 --     OperatorsAreSumsOfTerms       an operator is the sum of its terms
 --     ProductFollowsRule            a polynomial before an operator, a symbol before one, and how a symbol passes a term
+--     ProductHasUnit                the operator one, before and behind
 --     ProductDistributes            over sums on both sides
 --     ProductIsAssociative
 --     ProductActsOnPolynomials      what operators make of polynomials; a product makes what its factors make in turn
@@ -52,6 +53,10 @@ pub record ProductFollowsRule : Type 0 where
       (a : Name → Action) (i : Name) (m : Mono) (c : Polynomial) →
       symbol_before a i (term_of m c) ≡
       sum_of_operators (term_of (symbol i · m) (sigma a i c)) (term_of m (delta a i c))
+
+pub record ProductHasUnit : Type 0 where
+  pub before : (a : Name → Action) (p : Operator) → product_of a (term_of unit polys.one) p ≡ p
+  pub behind : (a : Name → Action) (p : Operator) → product_of a p (term_of unit polys.one) ≡ p
 
 pub record ProductDistributes : Type 0 where
   pub over_right :
