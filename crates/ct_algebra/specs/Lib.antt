@@ -22,6 +22,7 @@ pub mod Field
 pub mod Restriction
 pub mod Operators
 pub mod FreeOf
+pub mod Leading
 pub mod Coefficients
 pub mod Certificate
 pub mod OnPolynomials
