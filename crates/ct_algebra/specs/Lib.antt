@@ -16,6 +16,7 @@ pub mod Ore
 pub mod OreAlgebra
 pub mod Actions
 pub mod Fractions
+pub mod FractionRing
 pub mod Division
 pub mod FractionOre
 pub mod Field
