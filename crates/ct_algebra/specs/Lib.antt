@@ -27,6 +27,7 @@ pub mod Leading
 pub mod Coefficients
 pub mod Certificate
 pub mod OnPolynomials
+pub mod MonomialLaws
 pub mod PolynomialLaws
 pub mod SymbolLaws
 pub mod OperatorLaws
