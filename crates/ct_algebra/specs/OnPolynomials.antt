@@ -16,6 +16,8 @@ use Rattle.ct_algebra.specs.Operators.{Operator, apply}
 abbrev pub symbol_by : Action → Name → Polynomial → Polynomial
 symbol_by t i p = by_action t (sigma_by t i p) (delta_by t i p) (delta_by t i p)
 
+-- ---- laws, and the module that rests on them
+
 pub symbol_by-sum :
     (t : Action) (i : Name) (p q : Polynomial) →
     symbol_by t i (polys.◌+◌ p q) ≡ polys.◌+◌ (symbol_by t i p) (symbol_by t i q)
