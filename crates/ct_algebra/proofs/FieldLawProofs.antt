@@ -6,10 +6,24 @@ use Rattle.ct_algebra.specs.RingTactic.{reify, ring2}
 use Rattle.ct_algebra.specs.Polynomial.{polys, polys_domain, plus_is, times_is, times}
 use Rattle.ct_algebra.specs.Actions.{polynomials}
 use Rattle.ct_algebra.specs.Fractions.{Ratio, same_value, value_same, by_values, whole, embed_is, value-product, ratio_product}
-use Rattle.ct_algebra.specs.Division.{embed-sum, embed-product, embed_injective, mul-inverse}
+use Rattle.ct_algebra.specs.Division.{embed-sum, embed-product, embed_injective, mul-inverse, fractions_domain}
 use Rattle.ct_algebra.specs.FractionOre.{embed-σ, embed-δ}
-use Rattle.ct_algebra.specs.Field.{field, plain}
-use Rattle.ct_algebra.specs.FieldLaws.{FieldExtendsPolynomials, FieldHasInverses, FieldIsFractions, embedded, value_of}
+use Rattle.ct_algebra.specs.Field.{field, plain, coefficients}
+use Rattle.ct_algebra.specs.FieldLaws.{FieldIsARing, FieldExtendsPolynomials, FieldHasInverses, FieldIsFractions, SymbolsRespectTheField, embedded, value_of}
+
+pub ring : FieldIsARing
+ring = record {
+  sum_is_associative = field.add_assoc;
+  sum_is_commutative = field.add_comm;
+  sum_with_zero = field.add_zero;
+  sum_with_negative = field.add_neg;
+  product_is_associative = field.mul_assoc;
+  product_is_commutative = field.mul_comm;
+  product_with_one = field.mul_one;
+  product_distributes = field.mul_add;
+  one_is_not_zero = (fractions_domain polys polys_domain).proper;
+  no_zero_divisors = (fractions_domain polys polys_domain).no_divisors;
+}
 
 pub extends : FieldExtendsPolynomials
 extends = record {
@@ -39,4 +53,12 @@ fractions = record {
   no_others = λ z missed.
       by_values polys polys_domain (λ w. w ≡ z → ⊥) (λ w. Π_prop (λ same. ⊥_prop)) missed z refl;
   quotient = value-times_den;
+}
+
+pub respect_the_field : SymbolsRespectTheField
+respect_the_field = record {
+  sigma_of_sums = λ a i x y. (coefficients a).σ_add i x y;
+  sigma_of_products = λ a i x y. (coefficients a).σ_mul i x y;
+  delta_of_sums = λ a i x y. (coefficients a).δ_add i x y;
+  delta_of_products = λ a i x y. (coefficients a).δ_mul i x y;
 }
