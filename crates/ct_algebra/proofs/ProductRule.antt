@@ -8,7 +8,7 @@ use Rattle.ct_algebra.specs.Names.{Name, symbol, symbols, power, power_unit, pow
 use Rattle.ct_algebra.specs.Polynomial.{Polynomial, polys, times}
 use Rattle.ct_algebra.specs.Actions.{Action, sigma, delta, sigma_by-one, polynomials}
 use Rattle.ct_algebra.specs.Ore.{Module, δ_one}
-use Rattle.ct_algebra.specs.OreAlgebra.{◌∘◌, one_term, op_D-one_term, op_module, op_scale-one_term, D_D_is}
+use Rattle.ct_algebra.specs.OreAlgebra.{◌∘◌, one_term, op_D-one_term, op_module, op_scale-one_term, D_scale_is, D_D_is}
 use Rattle.ct_algebra.specs.Sums.{same_hom}
 use Rattle.ct_algebra.specs.Operators.{Operator, operator_set, operator_group, term_of, sum_of_operators, product_of, symbol_before, multiple, product_of-sum_left, apply}
 use Rattle.ct_algebra.proofs.AppliedOperators.{apply-term_of, multiple-one}
@@ -16,7 +16,7 @@ use Rattle.ct_algebra.proofs.OperatorTerms.{sums_are, none_is, term_of-single, t
 
 module _ (a : Name → Action) where
   -- operators as a module of operators
-  abbrev before : Module polys (polynomials a) Operator
+  abbrev pub before : Module polys (polynomials a) Operator
   before = op_module monomials products polys (polynomials a) symbols operator_set
 
   pub multiple-term_of : (b : Polynomial) (m : Mono) (c : Polynomial) → multiple a b (term_of m c) ≡ term_of m (times b c)
@@ -31,6 +31,13 @@ module _ (a : Name → Action) where
       sum_of_operators (term_of (symbol i · m) (sigma a i c)) (term_of m (delta a i c))
   unfolding symbol_before sum_of_operators term_of one_term
   symbol_before-term_of i m c = op_D-one_term monomials products polys (polynomials a) symbols operator_set i m c
+
+  pub symbol_before-multiple :
+      (i : Name) (c : Polynomial) (p : Operator) →
+      symbol_before a i (multiple a c p) ≡
+      sum_of_operators (multiple a (sigma a i c) (symbol_before a i p)) (multiple a (delta a i c) p)
+  unfolding symbol_before multiple sum_of_operators
+  symbol_before-multiple i c p = D_scale_is monomials products polys (polynomials a) symbols operator_set i c p
 
   pub symbols_commute :
       (i j : Name) (p : Operator) → symbol_before a i (symbol_before a j p) ≡ symbol_before a j (symbol_before a i p)

@@ -25,6 +25,7 @@ pub mod PolynomialLaws
 pub mod SymbolLaws
 pub mod OperatorLaws
 pub mod FieldLaws
+pub mod CertificateLaws
 -- how these values are made: the laws above say all that is meant of them
 pub mod Group
 pub mod Ring

@@ -1,0 +1,5 @@
+use Rattle.ct_algebra.proofs.CertificateLawProofs.{difference_cleared}
+use Rattle.ct_algebra.proofs.laws.difference_is_cleared.Goals as goal
+
+pub returns : goal.returns
+returns c = difference_cleared
