@@ -28,7 +28,8 @@ module _ {A : Type 0} (R : Ring A) (D : IsDomain R) where
 
   pub ⊞_assoc : (p q r : Fraction R D) → ◌⊞◌ R D (◌⊞◌ R D p q) r ≡ ◌⊞◌ R D p (◌⊞◌ R D q r)
   ⊞_assoc = same_maps3 R D (λ p q r. ◌⊞◌ R D (◌⊞◌ R D p q) r) (λ p q r. ◌⊞◌ R D p (◌⊞◌ R D q r)) (λ x y z.
-      ap (λ w. ◌⊞◌ R D w (value R D z)) (value-sum R D x y) ∙ value-sum R D _ z ∙ same_value R D _ _ (cross x y z) ∙ sym (ap (◌⊞◌ R D (value R D x)) (value-sum R D y z) ∙ value-sum R D x _))
+      ap (λ w. ◌⊞◌ R D w (value R D z)) (value-sum R D x y) ∙ value-sum R D _ z ∙ same_value R D _ _ (cross x y z)
+      ∙ sym (ap (◌⊞◌ R D (value R D x)) (value-sum R D y z) ∙ value-sum R D x _))
     where
       cross : (x y z : Ratio R) → SameValue R D (ratio_sum R D (ratio_sum R D x y) z) (ratio_sum R D x (ratio_sum R D y z))
       cross x y z =
@@ -36,7 +37,8 @@ module _ {A : Type 0} (R : Ring A) (D : IsDomain R) where
 
   pub ⊠-⊞ : (p q r : Fraction R D) → ◌⊠◌ R D p (◌⊞◌ R D q r) ≡ ◌⊞◌ R D (◌⊠◌ R D p q) (◌⊠◌ R D p r)
   ⊠-⊞ = same_maps3 R D (λ p q r. ◌⊠◌ R D p (◌⊞◌ R D q r)) (λ p q r. ◌⊞◌ R D (◌⊠◌ R D p q) (◌⊠◌ R D p r)) (λ x y z.
-      ap (◌⊠◌ R D (value R D x)) (value-sum R D y z) ∙ value-product R D x _ ∙ same_value R D _ _ (cross x y z) ∙ sym (ap₂ (◌⊞◌ R D) (value-product R D x y) (value-product R D x z) ∙ value-sum R D _ _))
+      ap (◌⊠◌ R D (value R D x)) (value-sum R D y z) ∙ value-product R D x _ ∙ same_value R D _ _ (cross x y z)
+      ∙ sym (ap₂ (◌⊞◌ R D) (value-product R D x y) (value-product R D x z) ∙ value-sum R D _ _))
     where
       cross : (x y z : Ratio R) → SameValue R D (ratio_product R D x (ratio_sum R D y z)) (ratio_sum R D (ratio_product R D x y) (ratio_product R D x z))
       cross x y z =
@@ -44,14 +46,17 @@ module _ {A : Type 0} (R : Ring A) (D : IsDomain R) where
 
   pub ⊠_comm : (p q : Fraction R D) → ◌⊠◌ R D p q ≡ ◌⊠◌ R D q p
   ⊠_comm =
-      same_maps2 R D (λ p q. ◌⊠◌ R D p q) (λ p q. ◌⊠◌ R D q p) (λ x y. value-product R D x y ∙ same_value R D _ _ (cross x y) ∙ sym (value-product R D y x))
+      same_maps2 R D (λ p q. ◌⊠◌ R D p q) (λ p q. ◌⊠◌ R D q p) (λ x y. value-product R D x y
+      ∙ same_value R D _ _ (cross x y) ∙ sym (value-product R D y x))
     where
       cross : (x y : Ratio R) → SameValue R D (ratio_product R D x y) (ratio_product R D y x)
       cross x y = ring4 R x.num x.den y.num y.den (λ a b c d. (search reify depth 12, search reify depth 12)) refl
 
   pub ⊠_assoc : (p q r : Fraction R D) → ◌⊠◌ R D (◌⊠◌ R D p q) r ≡ ◌⊠◌ R D p (◌⊠◌ R D q r)
   ⊠_assoc = same_maps3 R D (λ p q r. ◌⊠◌ R D (◌⊠◌ R D p q) r) (λ p q r. ◌⊠◌ R D p (◌⊠◌ R D q r)) (λ x y z.
-      ap (λ w. ◌⊠◌ R D w (value R D z)) (value-product R D x y) ∙ value-product R D _ z ∙ same_value R D _ _ (cross x y z) ∙ sym (ap (◌⊠◌ R D (value R D x)) (value-product R D y z) ∙ value-product R D x _))
+      ap (λ w. ◌⊠◌ R D w (value R D z)) (value-product R D x y) ∙ value-product R D _ z
+      ∙ same_value R D _ _ (cross x y z)
+      ∙ sym (ap (◌⊠◌ R D (value R D x)) (value-product R D y z) ∙ value-product R D x _))
     where
       cross : (x y z : Ratio R) → SameValue R D (ratio_product R D (ratio_product R D x y) z) (ratio_product R D x (ratio_product R D y z))
       cross x y z =
@@ -68,7 +73,8 @@ module _ {A : Type 0} (R : Ring A) (D : IsDomain R) where
   pub ⊠-one : (p : Fraction R D) → ◌⊠◌ R D p (embed R D one) ≡ p
   unfolding embed
   ⊠-one =
-      same_maps R D (fraction_set R D) (λ p. ◌⊠◌ R D p (value R D (whole R D one))) (λ p. p) (λ x. value-product R D x _ ∙ same_value R D _ _ (cross x))
+      same_maps R D (fraction_set R D) (λ p. ◌⊠◌ R D p (value R D (whole R D one))) (λ p. p) (λ x. value-product R D x _
+      ∙ same_value R D _ _ (cross x))
     where
       cross : (x : Ratio R) → SameValue R D (ratio_product R D x (whole R D one)) x
       cross x = ring2 R x.num x.den (λ a b. (search reify depth 12, search reify depth 12)) refl
