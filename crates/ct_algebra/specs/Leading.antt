@@ -11,14 +11,17 @@ use Rattle.ct_algebra.specs.Monomial.{Mono, monomials}
 use Rattle.ct_algebra.specs.Polynomial.{Polynomial, polys}
 use Rattle.ct_algebra.specs.Operators.{Operator}
 
+-- the first term, if there is one
 abbrev pub leading : {M A : Type 0} → List (M × A) → Option (M × A)
 leading [] = None
 leading (e ∷ es) = Some e
 
 module _ {M A : Type 0} (O : Keys M) (G : Group A) where
+  -- the sum has this term first
   pub record Leads (p : Sum O G) (m : M) (c : A) : Type 0 where
     pub rest : List (M × A)
     pub is_first : p.terms ≡ (m, c) ∷ rest
 
+-- the same of an operator
 abbrev pub OperatorLeads : Operator → Mono → Polynomial → Type 0
 OperatorLeads p m c = Leads monomials polys.group p m c
