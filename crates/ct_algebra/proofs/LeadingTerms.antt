@@ -30,7 +30,8 @@ module _ {M A : Type 0} (O : Keys M) (G : Group A) where
           (subst (λ r. T (is_less r)) (sym order) tt, AllBelow_trans O G d.0 m ds order canonical.1)))
       head d ds canonical same Equal order =
           let key : d.0 ≡ m = O.tied d.0 m order in
-          let value : d.1 ≡ value_at O G p.terms m = sym (at_head O G d ds canonical.1) ∙ ap (value_at O G (d ∷ ds)) key ∙ ap (λ es. value_at O G es m) (sym same) in
+          let value : d.1 ≡ value_at O G p.terms m =
+          sym (at_head O G d ds canonical.1) ∙ ap (value_at O G (d ∷ ds)) key ∙ ap (λ es. value_at O G es m) (sym same) in
           record { rest = ds; is_first = same ∙ ap₂ (λ k c. (k, c) ∷ ds) key value }
       head d ds canonical same Greater order =
           absurd (not_zero O G d.1 canonical.0

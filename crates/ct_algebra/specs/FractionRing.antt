@@ -40,7 +40,8 @@ module _ {A : Type 0} (R : Ring A) (D : IsDomain R) where
       ap (◌⊠◌ R D (value R D x)) (value-sum R D y z) ∙ value-product R D x _ ∙ same_value R D _ _ (cross x y z)
       ∙ sym (ap₂ (◌⊞◌ R D) (value-product R D x y) (value-product R D x z) ∙ value-sum R D _ _))
     where
-      cross : (x y z : Ratio R) → SameValue R D (ratio_product R D x (ratio_sum R D y z)) (ratio_sum R D (ratio_product R D x y) (ratio_product R D x z))
+      cross : (x y z : Ratio R) → SameValue R D (ratio_product R D x (ratio_sum R D y z))
+          (ratio_sum R D (ratio_product R D x y) (ratio_product R D x z))
       cross x y z =
           ring6 R x.num x.den y.num y.den z.num z.den (λ a b c d e f. (search reify depth 20, search reify depth 20)) refl
 
