@@ -9,7 +9,7 @@ use Rattle.ct_algebra.specs.Actions.{Action, Shift, Derive, Still, by_action, si
 use Rattle.ct_algebra.specs.Operators.{Operator, sum_of_operators, negative, multiple, symbol_before}
 use Rattle.ct_algebra.specs.Certificate.{difference_numerator}
 use Rattle.ct_algebra.specs.CertificateLaws.{DifferenceIsCleared}
-use Rattle.ct_algebra.proofs.ProductRule.{before, symbol_before-multiple}
+use Rattle.ct_algebra.proofs.ProductRule.{operator_module, symbol_before-multiple}
 use Rattle.ct_algebra.proofs.ModuleLaws.{scale-zero_value, scale-neg, scale-scale}
 
 -- ---- in any module, for a coefficient d and vectors v and r
@@ -46,9 +46,9 @@ cleared_by :
     (negative (multiple a (by_action t (sigma_by t i d) (delta_by t i d) polys.zero) (multiple a d r))) ≡
     multiple a (by_action t (times d (sigma_by t i d)) (times d d) (times d d)) (by_action t (sum_of_operators v (negative r)) v v)
 unfolding sum_of_operators multiple negative times
-cleared_by a Shift i d v r = cleared_shift (before a) d (sigma_by Shift i d) v r
-cleared_by a Derive i d v r = cleared_derivation (before a) d (delta_by Derive i d) v r
-cleared_by a Still i d v r = cleared_derivation (before a) d polys.zero v r
+cleared_by a Shift i d v r = cleared_shift (operator_module a) d (sigma_by Shift i d) v r
+cleared_by a Derive i d v r = cleared_derivation (operator_module a) d (delta_by Derive i d) v r
+cleared_by a Still i d v r = cleared_derivation (operator_module a) d polys.zero v r
 
 pub difference_cleared : DifferenceIsCleared
 difference_cleared a s r exact =

@@ -16,8 +16,8 @@ use Rattle.ct_algebra.proofs.OperatorTerms.{sums_are, none_is, term_of-single, t
 
 module _ (a : Name → Action) where
   -- operators as a module of operators
-  abbrev pub before : Module polys (polynomials a) Operator
-  before = op_module monomials products polys (polynomials a) symbols operator_set
+  abbrev pub operator_module : Module polys (polynomials a) Operator
+  operator_module = op_module monomials products polys (polynomials a) symbols operator_set
 
   pub multiple-term_of : (b : Polynomial) (m : Mono) (c : Polynomial) → multiple a b (term_of m c) ≡ term_of m (times b c)
   unfolding multiple term_of one_term times
@@ -50,7 +50,7 @@ module _ (a : Name → Action) where
       (m : Mono) (c : Polynomial) (p : Operator) →
       product_of a (term_of m c) p ≡ multiple a c (power (symbol_before a) m p)
   unfolding product_of ◌∘◌ apply multiple symbol_before
-  product_of-term_of m c p = apply-term_of a before m c p
+  product_of-term_of m c p = apply-term_of a operator_module m c p
 
   pub product_of-polynomial : (c : Polynomial) (p : Operator) → product_of a (term_of unit c) p ≡ multiple a c p
   product_of-polynomial c p = product_of-term_of unit c p ∙ ap (multiple a c) (power_unit (symbol_before a) p)

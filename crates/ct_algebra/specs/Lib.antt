@@ -8,6 +8,7 @@ pub mod Substitution
 pub mod Derivative
 -- what the symbols of an algebra do, and its operators
 pub mod Actions
+pub mod Ore
 pub mod Operators
 pub mod OnPolynomials
 pub mod FreeOf
@@ -34,7 +35,6 @@ pub mod WholeNumbers
 pub mod Terms
 pub mod Sums
 pub mod Products
-pub mod Ore
 pub mod OreAlgebra
 pub mod FractionRing
 pub mod Division
