@@ -62,28 +62,30 @@ module _ (a : Name → Action) where
       ∙ power-symbol (symbol_before a) symbols_commute i p
 
   -- a term is its coefficient times its monomial
-  pub product_of-split : (m : Mono) (c : Polynomial) → product_of a (term_of unit c) (term_of m polys.one) ≡ term_of m c
+  pub multiple-one_term : (m : Mono) (c : Polynomial) → multiple a c (term_of m polys.one) ≡ term_of m c
   unfolding times
-  product_of-split m c =
-      product_of-polynomial c _ ∙ multiple-term_of c m polys.one ∙ ap (term_of m) (polys.mul_one c)
+  multiple-one_term m c = multiple-term_of c m polys.one ∙ ap (term_of m) (polys.mul_one c)
+
+  pub product_of-split : (m : Mono) (c : Polynomial) → product_of a (term_of unit c) (term_of m polys.one) ≡ term_of m c
+  product_of-split m c = product_of-polynomial c _ ∙ multiple-one_term m c
 
   -- ---- one is a unit
 
   pub one-product_of : (p : Operator) → product_of a (term_of unit polys.one) p ≡ p
   one-product_of p = product_of-polynomial polys.one p ∙ multiple-one a p
 
-  -- symbols pass the coefficient one
+  -- a symbol passes the coefficient one
+  pub symbol_before-one : (i : Name) (m : Mono) → symbol_before a i (term_of m polys.one) ≡ term_of (symbol i · m) polys.one
+  symbol_before-one i m =
+      symbol_before-term_of i m polys.one
+      ∙ ap₂ sum_of_operators (ap (term_of (symbol i · m)) (sigma_by-one (a i) i)) (ap (term_of m) (δ_one (polynomials a) i) ∙ term_of-zero m)
+      ∙ sums_are _ _ ∙ ap (operator_group.◌+◌ _) none_is ∙ operator_group.add_zero _
+
   power-term_of : (m : Mono) → power (symbol_before a) m (term_of unit polys.one) ≡ term_of m polys.one
   power-term_of =
       by_symbols (λ m. power (symbol_before a) m (term_of unit polys.one) ≡ term_of m polys.one)
       (power_unit (symbol_before a) _)
-      (λ i m same. power_symbol (symbol_before a) symbols_commute i m _ ∙ ap (symbol_before a i) same ∙ past i m)
-    where
-      past : (i : Name) (m : Mono) → symbol_before a i (term_of m polys.one) ≡ term_of (symbol i · m) polys.one
-      past i m =
-          symbol_before-term_of i m polys.one
-          ∙ ap₂ sum_of_operators (ap (term_of (symbol i · m)) (sigma_by-one (a i) i)) (ap (term_of m) (δ_one (polynomials a) i) ∙ term_of-zero m)
-          ∙ sums_are _ _ ∙ ap (operator_group.◌+◌ _) none_is ∙ operator_group.add_zero _
+      (λ i m same. power_symbol (symbol_before a) symbols_commute i m _ ∙ ap (symbol_before a i) same ∙ symbol_before-one i m)
 
   pub product_of-one : (p : Operator) → product_of a p (term_of unit polys.one) ≡ p
   product_of-one p =

@@ -5,7 +5,8 @@
 --                                 value of a ratio times its denominator is its numerator
 --     FieldExtendsPolynomials     embedding keeps sums, products, σ and δ, and loses nothing
 --     SymbolsRespectTheField      σ keeps sums and products; δ keeps sums and has the product rule
--- So the field is the least one in which the polynomials are, and σ and δ of a fraction are known from its ratio.
+-- So the field is the least one in which the polynomials are, and σ and δ on it are known from those of polynomials
+-- (`field_sigma_only`, `field_delta_only` of Determined).
 use Rattle.std.specs.Prelude.{◌≡◌, ◌≢◌, ◌⊎◌}
 use Rattle.ct_algebra.specs.Names.{Name}
 use Rattle.ct_algebra.specs.Polynomial.{Polynomial, polys, polys_domain, plus, times}

@@ -26,6 +26,7 @@ pub mod PolynomialLaws
 pub mod SymbolLaws
 pub mod OperatorLaws
 pub mod FieldLaws
+pub mod Determined
 pub mod CertificateLaws
 -- how these values are made: the laws above say all that is meant of them
 pub mod Group

@@ -7,7 +7,7 @@
 --     ProductDistributes            over sums on both sides
 --     ProductIsAssociative
 --     ProductActsOnPolynomials      what operators make of polynomials; a product makes what its factors make in turn
--- The rule, both distributive laws and the associative law say what the product is.
+-- The rule, sums on the left and the associative law say all of the product (`product_only` of Determined).
 use Rattle.std.specs.Prelude.{◌≡◌, ◌≢◌, List, [], ◌∷◌}
 use Rattle.ct_algebra.specs.Monomial.{Mono, ◌·◌, unit}
 use Rattle.ct_algebra.specs.Names.{Name, symbol}

@@ -5,7 +5,8 @@
 --     ProductOfTermsIsATerm           monomials and coefficients are multiplied
 --     PolynomialsHaveNoZeroDivisors   a product is zero only where a factor is
 --     DegreeIsTheGreatestTotal        of the monomials with a nonzero coefficient; 0 for zero
--- The second and third say what polynomials and sums are; with the ring laws, the fourth says what a product is.
+-- The second and third say what polynomials and sums are; with the ring laws, the fourth says all of the product
+-- (`times_only` of Determined).
 use Rattle.std.specs.Prelude.{◌≡◌, ◌≢◌, ◌≤◌, ℤ, pos, neg_ℤ, ◌+ℤ◌, ◌*ℤ◌, List, [], ◌∷◌, ◌⊎◌}
 use Rattle.ct_algebra.specs.Monomial.{Mono, ◌·◌, total}
 use Rattle.ct_algebra.specs.Polynomial.{Polynomial, coefficient, polys, poly_of, plus, times, degree}

@@ -3,7 +3,7 @@
 --     ShiftReplacesItsName          σ of a shift is the substitution of x + 1 for the name x; its δ is zero
 --     DerivationIsTheDerivative     δ of a derivation is the termwise derivative; its σ is the identity
 --     StillNameDoesNothing          σ is the identity and δ is zero
--- A map that keeps sums, products and numbers is known from what it makes of the names; so is a derivation.
+-- These say all of both maps (`sigma_only`, `delta_only` of Determined).
 use Rattle.std.specs.Prelude.{◌≡◌, ◌≢◌, ℤ, pos, ◌*ℤ◌}
 use Rattle.ct_algebra.specs.Monomial.{Mono, ◌·◌, exp}
 use Rattle.ct_algebra.specs.Names.{Name, place, symbol}
