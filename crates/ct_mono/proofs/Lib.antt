@@ -1,0 +1,5 @@
+pub mod Arrays
+pub mod ListPairs
+pub mod LowerMonomials
+pub mod ListingLaws
+pub mod ListingSteps

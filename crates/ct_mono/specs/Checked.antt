@@ -1,6 +1,6 @@
 -- Checked computations: a value, or the kind of the first overflow.
 --     Checked A         the outcome of a computation whose steps can overflow
---     c >>= f           first c, then f of its value; the first overflow ends it, so `do` blocks give the order of steps
+--     c >>= f           first c, then f of its value; the first overflow ends it: `do` blocks give the order of steps
 --     verdict o x       x, unless a rule on the operands names a kind
 --     Answers c r       what a call may answer to the computation c: its value, its kind, or want of memory
 --     AnswersBy f c r   the same for a result that is seen through f

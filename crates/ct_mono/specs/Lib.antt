@@ -1,3 +1,6 @@
 pub mod Limits
 pub mod Checked
 pub mod Loop
+pub mod Equal
+pub mod Division
+pub mod Listing

@@ -1,6 +1,8 @@
 // Monomials: six exponents, seen as a list.
 ghost use Rattle.std.specs.Prelude.{◌≡◌, ◌+◌, ◌<◌, ◌≤◌, MatchOption};
 ghost use Rattle.ct_algebra.specs.Monomial.{exp, unit, total, ◌·◌, mono_cmp};
+ghost use Rattle.ct_algebra.specs.Names.{name_with, symbol};
+ghost use Rattle.ct_mono.specs.Division.{Divides, over};
 ghost use Rattle.ct_mono.specs.Limits.{largest_degree};
 
 use crate::limits::LARGEST_DEGREE;
@@ -37,6 +39,16 @@ impl Monomial {
         ensures { result ≡ unit }
     {
         Monomial { exps: [0; 6] }
+    }
+
+    /// A name, or the symbol of one.
+    pub fn name(i: u8) -> Monomial
+        requires { i < 6 }
+        ensures { result ≡ symbol (name_with i) }
+    {
+        let mut exps = [0; 6];
+        exps[i as usize] = 1;
+        Monomial { exps }
     }
 
     /// The exponent of a name.
@@ -80,6 +92,23 @@ impl Monomial {
         }
     }
 
+    /// What times a monomial is this one, or `None` where it does not divide.
+    pub fn over(&self, by: &Monomial) -> Option<Monomial>
+        ensures value { result ≡ over self.now by.now }
+        ensures divides { MatchOption result (¬ Divides by.now self.now) (λ m. m · by.now ≡ self.now) }
+    {
+        let mine = self.exps;
+        let its = by.exps;
+        let mut exps = [0; 6];
+        for i in 0..6 {
+            if mine[i] < its[i] {
+                return None;
+            }
+            exps[i] = mine[i] - its[i];
+        }
+        Some(Monomial { exps })
+    }
+
     /// The order of monomials: by the total, then by the first exponent that differs.
     pub fn cmp(&self, other: &Monomial) -> Ordering
         ensures { result ≡ mono_cmp self.now other.now }
@@ -91,4 +120,23 @@ impl Monomial {
             unequal => unequal,
         }
     }
+}
+
+impl PartialEq for Monomial {
+    ghost use Rattle.ct_mono.specs.Equal.{mono_eq, mono_eq_equiv};
+    ghost use Rattle.std.specs.Cmp.{partial_equiv_from_equiv};
+
+    ghost eq = { mono_eq };
+
+    ghost laws = { partial_equiv_from_equiv mono_eq_equiv };
+
+    fn eq(&self, other: &Monomial) -> bool {
+        self.exps == other.exps
+    }
+}
+
+impl Eq for Monomial {
+    ghost use Rattle.ct_mono.specs.Equal.{mono_eq_equiv};
+
+    ghost laws = { mono_eq_equiv };
 }

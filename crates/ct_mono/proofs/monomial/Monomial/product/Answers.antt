@@ -12,9 +12,23 @@ loop-i-preserved c = record {
 }
 
 pub returns : goal.returns
-returns c = product_of_sums c.self.inside.exps c.other.inside.exps c.loop-i.exps c.self.view_is c.other.view_is (λ k h. c.loop-i.invariant.sums k (omega arith))
+returns c =
+    product_of_sums c.self.inside.exps c.other.inside.exps c.loop-i.exps c.self.view_is c.other.view_is
+    (λ k h. c.loop-i.invariant.sums k (omega arith))
 
 pub invariant_of-result : goal.invariant_of-result
 invariant_of-result c =
-    let e : mono_of c.loop-i.exps ≡ mono_of c.self.inside.exps · mono_of c.other.inside.exps = product_of_sums c.self.inside.exps c.other.inside.exps c.loop-i.exps (λ i. mono_of c.self.inside.exps) (λ i. mono_of c.other.inside.exps) (λ k h. c.loop-i.invariant.sums k (omega arith)) in
-    (c.loop-i.invariant.six, omega (arith, c.requires, total-mono_of c.loop-i.exps c.loop-i.invariant.six, ap total e, total-· (mono_of c.self.inside.exps) (mono_of c.other.inside.exps), ap total c.self.view_is, ap total c.other.view_is))
+    let e : mono_of c.loop-i.exps ≡ mono_of c.self.inside.exps · mono_of c.other.inside.exps = product_of_sums
+    c.self.inside.exps c.other.inside.exps c.loop-i.exps (λ i. mono_of c.self.inside.exps)
+    (λ i. mono_of c.other.inside.exps) (λ k h. c.loop-i.invariant.sums k (omega arith)) in (
+      c.loop-i.invariant.six,
+      omega (
+        arith,
+        c.requires,
+        total-mono_of c.loop-i.exps c.loop-i.invariant.six,
+        ap total e,
+        total-· (mono_of c.self.inside.exps) (mono_of c.other.inside.exps),
+        ap total c.self.view_is,
+        ap total c.other.view_is,
+      ),
+    )
