@@ -4,3 +4,4 @@ pub mod Loop
 pub mod Equal
 pub mod Division
 pub mod Listing
+pub mod Rank

@@ -1,14 +1,20 @@
--- A checked loop: while `find` finds something, `step` on it; a rank that falls makes it a definition.
+-- Checked loops: while a test finds something in the state, a step on it. (This project's own.)
+--     turns n s     at most n turns, from the state s
+--     run s         all turns: as many as the rank of s allows
+--     Falls         each step from a state in which something is found makes the rank fall
+-- Where the rank falls, `run` is the loop with no count left in it: laws `run_is`, `run_done`, `run_step`, `run_more`.
+-- Law `run_keeps`: what each step keeps holds at the end, where nothing is found any more.
+-- Cited by the definitions of exact division, left reduction and elimination.
 use Rattle.std.specs.Prelude.{◌≡◌, ℕ, zero, suc, ◌<◌, Ok, Err, None, Some, refl}
 use Rattle.std.proofs.Common.{Option, sym, ◌∙◌, ap, arith, subst}
 use Rattle.ct_mono.specs.Checked.{Checked, ◌>>=◌}
 
 module _ {S H : Type 0} (rank : S → ℕ) (find : S → Option H) (step : H → S → Checked S) where
+  -- one turn, and then f
   abbrev pub turn : (S → Checked S) → S → Option H → Checked S
   turn f s None = Ok s
   turn f s (Some h) = step h s >>= f
 
-  -- at most n turns
   abbrev pub turns : ℕ → S → Checked S
   turns zero s = Ok s
   turns (suc n) s = turn (turns n) s (find s)
@@ -19,48 +25,62 @@ module _ {S H : Type 0} (rank : S → ℕ) (find : S → Option H) (step : H →
   abbrev pub Falls : Type 0
   Falls = (s t : S) (h : H) → find s ≡ Some h → step h s ≡ Ok t → rank t < rank s
 
+  -- ---- laws
+
   module _ (falls : Falls) where
-    turn_same : (f g : S → Checked S) (s : S) (o : Option H) → find s ≡ o → ((t : S) → rank t < rank s → f t ≡ g t) → turn f s o ≡ turn g s o
-    turn_same f g s None e k = refl
-    turn_same f g s (Some h) e k = go (step h s) refl
+    turn_same :
+        (f g : S → Checked S) (s : S) (o : Option H) → find s ≡ o → ((t : S) → rank t < rank s → f t ≡ g t) →
+        turn f s o ≡ turn g s o
+    turn_same f g s None found same = refl
+    turn_same f g s (Some h) found same = by (step h s) refl
       where
-        go : (r : Checked S) → step h s ≡ r → (r >>= f) ≡ (r >>= g)
-        go (Ok t) q = k t (falls s t h e q)
-        go (Err x) q = refl
+        by : (r : Checked S) → step h s ≡ r → (r >>= f) ≡ (r >>= g)
+        by (Ok t) stepped = same t (falls s t h found stepped)
+        by (Err kind) stepped = refl
 
     enough : (n m : ℕ) (s : S) → rank s < n → rank s < m → turns n s ≡ turns m s
-    enough zero m s p q = absurd (omega arith)
-    enough (suc n) zero s p q = absurd (omega arith)
-    enough (suc n) (suc m) s p q = turn_same (turns n) (turns m) s (find s) refl (λ t l. enough n m t (omega arith) (omega arith))
+    enough zero m s less also = absurd (omega arith)
+    enough (suc n) zero s less also = absurd (omega arith)
+    enough (suc n) (suc m) s less also =
+        turn_same (turns n) (turns m) s (find s) refl (λ t falls. enough n m t (omega arith) (omega arith))
 
-    -- the loop's own equation: no count of turns is left in it
+    -- the loop's own equation
     pub run_is : (s : S) → run s ≡ turn run s (find s)
     unfolding run
-    run_is s = turn_same (turns (rank s)) run s (find s) refl (λ t l. enough (rank s) (suc (rank t)) t l (omega arith))
+    run_is s =
+        turn_same (turns (rank s)) run s (find s) refl
+        (λ t falls. enough (rank s) (suc (rank t)) t falls (omega arith))
 
     pub run_done : (s : S) → find s ≡ None → run s ≡ Ok s
-    run_done s e = run_is s ∙ ap (turn run s) e
+    run_done s nothing = run_is s ∙ ap (turn run s) nothing
 
     pub run_step : (s : S) (h : H) → find s ≡ Some h → run s ≡ (step h s >>= run)
-    run_step s h e = run_is s ∙ ap (turn run s) e
+    run_step s h found = run_is s ∙ ap (turn run s) found
 
     pub run_more : (s t : S) (h : H) → find s ≡ Some h → step h s ≡ Ok t → run s ≡ run t
-    run_more s t h e q = run_step s h e ∙ ap (λ r. r >>= run) q
+    run_more s t h found stepped = run_step s h found ∙ ap (λ r. r >>= run) stepped
 
   module _ (P : S → Type 0) (keeps : (s t : S) (h : H) → find s ≡ Some h → step h s ≡ Ok t → P s → P t) where
-    -- what each step keeps holds at the end, where nothing is found any more
-    turns_keep : Falls → (n : ℕ) (s t : S) → rank s < n → P s → turns n s ≡ Ok t → P t × (find t ≡ None)
-    turns_keep falls zero s t l p e = absurd (omega arith)
-    turns_keep falls (suc n) s t l p e = by (find s) refl (λ u. turns_keep falls n u t) e
+    abbrev Kept : S → Type 0
+    Kept t = P t × (find t ≡ None)
+
+    turns_keep : Falls → (n : ℕ) (s t : S) → rank s < n → P s → turns n s ≡ Ok t → Kept t
+    turns_keep falls zero s t less holds ends = absurd (omega arith)
+    turns_keep falls (suc n) s t less holds ends = by (find s) refl (λ u. turns_keep falls n u t) ends
       where
-        further : (h : H) (r : Checked S) → find s ≡ Some h → step h s ≡ r → ((u : S) → rank u < n → P u → turns n u ≡ Ok t → P t × (find t ≡ None)) → (r >>= turns n) ≡ Ok t → P t × (find t ≡ None)
-        further h (Ok u) f q ih w = let d = falls s u h f q in ih u (omega arith) (keeps s u h f q p) w
-        further h (Err x) f q ih w = cc
+        Later : Type 0
+        Later = (u : S) → rank u < n → P u → turns n u ≡ Ok t → Kept t
 
-        by : (o : Option H) → find s ≡ o → ((u : S) → rank u < n → P u → turns n u ≡ Ok t → P t × (find t ≡ None)) → turn (turns n) s o ≡ Ok t → P t × (find t ≡ None)
-        by None f ih w = let same : s ≡ t = cc in (subst P same p, ap find (sym same) ∙ f)
-        by (Some h) f ih w = further h (step h s) f refl ih w
+        further : (h : H) (r : Checked S) → find s ≡ Some h → step h s ≡ r → Later → (r >>= turns n) ≡ Ok t → Kept t
+        further h (Ok u) found stepped later ends =
+            let falls_here = falls s u h found stepped in later u (omega arith) (keeps s u h found stepped holds) ends
+        further h (Err kind) found stepped later ends = cc
 
-    pub run_keeps : Falls → (s t : S) → P s → run s ≡ Ok t → P t × (find t ≡ None)
+        by : (o : Option H) → find s ≡ o → Later → turn (turns n) s o ≡ Ok t → Kept t
+        by None nothing later ends =
+            let same : s ≡ t = cc in (subst P same holds, ap find (sym same) ∙ nothing)
+        by (Some h) found later ends = further h (step h s) found refl later ends
+
+    pub run_keeps : Falls → (s t : S) → P s → run s ≡ Ok t → Kept t
     unfolding run
-    run_keeps falls s t p e = turns_keep falls (suc (rank s)) s t (omega arith) p e
+    run_keeps falls s t holds ends = turns_keep falls (suc (rank s)) s t (omega arith) holds ends
