@@ -1,24 +1,12 @@
--- Arrays of exponents against monomials: a symbol, a quotient and the test for equality, as code computes them.
--- Main lemmas `symbol_of_array`, `over_of_differences`, `over_of_less`, `eq_of_arrays`. Cited by `Monomial`'s functions.
-use Rattle.std.specs.Prelude.{◌≡◌, refl, ℕ, zero, suc, ◌+◌, ◌<◌, List, [], ◌∷◌, length, get_or, set, None, Some, nat_eq}
+-- Arrays of exponents against monomials: a quotient and the test for equality, as code computes them.
+-- Main lemmas `over_of_differences`, `over_of_less`, `eq_of_arrays`. Cited by `Monomial`'s functions.
+use Rattle.std.specs.Prelude.{◌≡◌, refl, ℕ, ◌+◌, ◌<◌, List, length, get_or, None, Some, nat_eq}
 use Rattle.std.proofs.Common.{sym, ◌∙◌, ap, ap₂, arith}
 use Rattle.std.specs.Cmp.Lexicographic.{pointwise}
-use Rattle.ct_algebra.specs.Monomial.{Mono, exp, mono, mono_of, exp-mono_of, exps-mono_of, ◌·◌}
-use Rattle.ct_algebra.specs.Names.{name_with, symbol}
+use Rattle.ct_algebra.specs.Monomial.{Mono, exp, mono_of, exp-mono_of, exps-mono_of, ◌·◌}
 use Rattle.ct_algebra.proofs.MonomialLists.{product_of_sums}
 use Rattle.ct_mono.specs.Division.{over, over-·, over_refused}
 use Rattle.ct_mono.specs.Equal.{mono_eq}
-
-pub symbol_of_array :
-    (i : ℕ) → i < 6 → mono_of (set (0 ∷ 0 ∷ 0 ∷ 0 ∷ 0 ∷ 0 ∷ []) i 1) ≡ symbol (name_with i)
-unfolding mono_of mono symbol
-symbol_of_array zero small = refl
-symbol_of_array (suc zero) small = refl
-symbol_of_array (suc (suc zero)) small = refl
-symbol_of_array (suc (suc (suc zero))) small = refl
-symbol_of_array (suc (suc (suc (suc zero)))) small = refl
-symbol_of_array (suc (suc (suc (suc (suc zero))))) small = refl
-symbol_of_array (suc (suc (suc (suc (suc (suc i)))))) small = absurd (omega arith)
 
 pub over_of_differences :
     {m d : Mono} (xs ys zs : List ℕ) → mono_of xs ≡ m → mono_of ys ≡ d →

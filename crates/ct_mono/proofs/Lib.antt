@@ -1,4 +1,5 @@
 pub mod Arrays
+pub mod ExponentLaws
 pub mod ListPairs
 pub mod LowerMonomials
 pub mod ListingLaws

@@ -9,8 +9,9 @@ use Rattle.std.proofs.lemmas.List.Elements.{All-nil, All-cons, All-head, All-tai
 use Rattle.ct_algebra.specs.Monomial.{Mono, exp, mono, unit, total, ◌·◌, mono_cmp, exp-mono, same_mono, exp-·, exp-unit, total-·, less_of_total}
 use Rattle.ct_algebra.specs.Names.{name_with, symbol}
 use Rattle.ct_mono.specs.Listing.{UsesOnly, IsListing, only_unit, with_first, of_total, below, up_to}
+use Rattle.ct_mono.proofs.ExponentLaws.{total-unit}
 use Rattle.ct_mono.proofs.ListPairs.{pairs_head, pairs_tail, pairs-append, pairs-map, Contains-map}
-use Rattle.ct_mono.proofs.LowerMonomials.{less_at, times_less, no_total, total-unit, total-symbol, exp-own, exp-other}
+use Rattle.ct_mono.proofs.LowerMonomials.{less_at, times_less, no_total, total-symbol, exp-own, exp-other}
 
 -- ---- the names of a monomial
 

@@ -7,8 +7,9 @@ use Rattle.std.specs.Cmp.Lexicographic.{slice_cmp}
 use Rattle.std.specs.Cmp.{nat_cmp_is}
 use Rattle.std.specs.Ordering.{ordering_then}
 use Rattle.ct_algebra.specs.Monomial.{Mono, exp, mono, unit, total, ◌·◌, mono_cmp, graded, same_mono, exp-unit, ·_comm, mono_ordered}
-use Rattle.ct_algebra.specs.Names.{Name, x0, x1, x2, x3, x4, x5, place, name_with, symbol, exp-symbol}
+use Rattle.ct_algebra.specs.Names.{Name, x0, x1, x2, x3, x4, x5, name_with, symbol, exp-symbol}
 use Rattle.ct_algebra.proofs.MonomialLists.{exp-le-total}
+use Rattle.ct_mono.proofs.ExponentLaws.{place-name_with}
 
 slice_cmp-first :
     (xs ys : List ℕ) (j : ℕ) → j < length xs → j < length ys →
@@ -42,10 +43,6 @@ exp-total m i small = exp-le-total m.exps i (omega (arith, m.six))
 pub no_total : (m : Mono) → total m ≡ 0 → m ≡ unit
 no_total m none = same_mono m unit (λ i small. omega (arith, exp-total m i small, exp-unit i small))
 
-pub total-unit : total unit ≡ 0
-unfolding total unit mono
-total-unit = refl
-
 pub total-symbol : (i : Name) → total (symbol i) ≡ 1
 unfolding total symbol mono
 total-symbol x0 = refl
@@ -56,15 +53,6 @@ total-symbol x4 = refl
 total-symbol x5 = refl
 
 -- ---- names
-
-place-name_with : (i : ℕ) → i < 6 → place (name_with i) ≡ i
-place-name_with zero small = refl
-place-name_with (suc zero) small = refl
-place-name_with (suc (suc zero)) small = refl
-place-name_with (suc (suc (suc zero))) small = refl
-place-name_with (suc (suc (suc (suc zero)))) small = refl
-place-name_with (suc (suc (suc (suc (suc zero))))) small = refl
-place-name_with (suc (suc (suc (suc (suc (suc i)))))) small = absurd (omega arith)
 
 pub exp-own : (i k : ℕ) → i < 6 → k ≡ i → exp (symbol (name_with i)) k ≡ 1
 exp-own i k small same =

@@ -5,3 +5,4 @@ pub mod Equal
 pub mod Division
 pub mod Listing
 pub mod Rank
+pub mod Exponents

@@ -4,6 +4,7 @@ ghost use Rattle.ct_algebra.specs.Monomial.{exp, unit, total, ◌·◌, mono_cmp
 ghost use Rattle.ct_algebra.specs.Names.{name_with, symbol};
 ghost use Rattle.ct_mono.specs.Division.{Divides, over};
 ghost use Rattle.ct_mono.specs.Limits.{largest_degree};
+ghost use Rattle.ct_mono.specs.Exponents.{with_exponent};
 
 use crate::limits::LARGEST_DEGREE;
 use std::cmp::Ordering;
@@ -41,14 +42,12 @@ impl Monomial {
         Monomial { exps: [0; 6] }
     }
 
-    /// A name, or the symbol of one.
+    /// A name, or its symbol.
     pub fn name(i: u8) -> Monomial
         requires { i < 6 }
         ensures { result ≡ symbol (name_with i) }
     {
-        let mut exps = [0; 6];
-        exps[i as usize] = 1;
-        Monomial { exps }
+        Monomial::one().with_exp(i, 1)
     }
 
     /// The exponent of a name.
@@ -65,6 +64,17 @@ impl Monomial {
         ensures within { result ≤ largest_degree }
     {
         self.exps[0] + self.exps[1] + self.exps[2] + self.exps[3] + self.exps[4] + self.exps[5]
+    }
+
+    /// The monomial with another exponent of a name.
+    pub fn with_exp(&self, i: u8, e: u16) -> Monomial
+        requires known { i < 6 }
+        requires within { total self.now + e ≤ largest_degree + exp self.now i }
+        ensures { result ≡ with_exponent i e self.now }
+    {
+        let mut exps = self.exps;
+        exps[i as usize] = e;
+        Monomial { exps }
     }
 
     /// The product of two monomials whose totals are within the limit together.

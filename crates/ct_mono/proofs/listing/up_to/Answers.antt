@@ -2,7 +2,7 @@ use Rattle.std.proofs.Common.{◌≡◌, suc, sym, ◌∙◌, ap, subst, arith}
 use Rattle.ct_algebra.specs.Monomial.{total}
 use Rattle.ct_mono.specs.Listing.{IsListing, below}
 use Rattle.ct_mono.proofs.ListingLaws.{up_to-listing}
-use Rattle.ct_mono.proofs.LowerMonomials.{total-unit}
+use Rattle.ct_mono.proofs.ExponentLaws.{total-unit}
 use Rattle.ct_mono.proofs.ListingSteps.{more_below}
 use Rattle.ct_mono.proofs.listing.up_to.Goals as goal
 
