@@ -1,0 +1,2 @@
+mod FrontRead
+mod Reported

@@ -1,0 +1,34 @@
+-- How a run ends, and what it leaves of its source and its sink. This project's own.
+--     Reports output status before after   a run that is to give out this output ended so, where the sink
+--                                          had taken `before` and then `after`
+--     LeavesAfter bytes status left        a run over these bytes that ended so left these
+--     TellsFault status fault before now   a fault was counted just where the status is this fault's
+-- A sink that fails has taken a front of the text. A run that wants memory has written nothing.
+-- `run` cites it.
+use Rattle.std.specs.Prelude.{◌≡◌, ◌≢◌, ℕ, ◌+◌, ◌≤◌, List, drop, Option, Some}
+use Rattle.std.specs.Io.{StartsWith}
+use Rattle.std.specs.Io.KnownBytes.{Appends, Keeps}
+use Rattle.ct_io.specs.Faults.{Rose}
+use Rattle.ct_run.specs.Out.{Output, largest_text}
+use Rattle.ct_run.specs.Status.{status_of}
+use Rattle.ct_run.specs.declared.status.Status.{Status}
+use Rattle.ct_run.specs.declared.status.Status.TheVariants.{ReadFault, WriteFault, NoMemory}
+
+-- a run that is to give out this output ended with this status, and the sink took what this status says
+abbrev pub Reports : Output → Status → Option (List ℕ) → Option (List ℕ) → Type 0
+Reports output WriteFault before after = (written : List ℕ) × StartsWith output.text written × Appends before after written
+Reports output ReadFault before after = Keeps before after
+Reports output NoMemory before after = Keeps before after
+Reports output status before after = (status ≡ status_of output.outcome) × Appends before after output.text
+
+-- a run that read these bytes and ended with this status left what is past the limit
+abbrev pub LeavesAfter : List ℕ → Status → Option (List ℕ) → Type 0
+LeavesAfter bytes ReadFault left = Unit {0}
+LeavesAfter bytes NoMemory left = Unit {0}
+LeavesAfter bytes status left = Keeps (Some (drop (largest_text + 1) bytes)) left
+
+-- the status is this fault's only where a fault was counted, and none was where it is another
+pub record TellsFault (status fault : Status) (before now : ℕ) : Type 0 where
+  pub later : before ≤ now
+  pub rose : status ≡ fault → Rose before now
+  pub unchanged : status ≢ fault → now ≡ before

@@ -1,0 +1,11 @@
+-- The words of a run, and the command that they ask for. This project's own.
+-- `read_words` and `run` cite `words_of`.
+use Rattle.std.specs.Prelude.{ℕ, List, [], ◌∷◌, Option, Some, None, bytes_eq, codes, if◌then◌else◌}
+use Rattle.ct_io.specs.declared.command.Command.{Command}
+use Rattle.ct_io.specs.declared.command.Command.TheVariants.{Check}
+
+-- the command that the words ask for, none where they are refused: the one word `check`
+abbrev pub words_of : List (List ℕ) → Option Command
+words_of [] = None
+words_of (word ∷ []) = if bytes_eq word (codes "check") then Some Check else None
+words_of (word ∷ next ∷ rest) = None
