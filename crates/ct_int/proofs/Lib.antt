@@ -1,0 +1,5 @@
+pub mod Scaling
+pub mod GcdLaws
+pub mod LowestTerms
+pub mod OperationLaws
+pub mod WideProducts

@@ -1,0 +1,20 @@
+use Rattle.std.proofs.Common.{◌≡◌, subst, ◌∙◌, ap, sym}
+use Rattle.std.proofs.lemmas.Result.{IfOk-weaker}
+use Rattle.ct_int.proofs.OperationLaws.{sum_of-opposite, SumPasses-opposite, SumPasses-to_opposite, refuses-same}
+use Rattle.ct_int.specs.Rational.{IsLowestTerms, sum_of, difference_of}
+use Rattle.ct_int.specs.Limits.{SumPasses}
+use Rattle.ct_int.specs.declared.fault.IntFault.TheVariants.{Overflow}
+use Rattle.ct_int.proofs.rat.Rat.sub.Goals as goal
+
+pub returns-clause-value : goal.returns-clause-value
+returns-clause-value c =
+    let p = c.args.self.now in
+    let q = c.args.other.now in
+    let same : sum_of p c.opposite.result ≡ difference_of p q = ap (λ s. sum_of p s) c.opposite.ensures ∙ sum_of-opposite p q in
+    IfOk-weaker c.add.result (λ r. IsLowestTerms (sum_of p c.opposite.result) r) (λ r. IsLowestTerms (difference_of p q) r) (λ r h. subst (λ s. IsLowestTerms s r) same h) c.add.ensures.value
+
+pub returns-clause-overflows : goal.returns-clause-overflows
+returns-clause-overflows c =
+    let p = c.args.self.now in
+    let q = c.args.other.now in
+    refuses-same Overflow (SumPasses p c.opposite.result) (SumPasses p q) c.add.result (λ h. SumPasses-opposite p q (subst (λ s. SumPasses p s) c.opposite.ensures h)) (λ h. subst (λ s. SumPasses p s) (sym c.opposite.ensures) (SumPasses-to_opposite p q h)) c.add.ensures.overflows
