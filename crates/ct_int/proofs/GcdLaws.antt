@@ -53,3 +53,25 @@ coprime_product x y z first second =
 pub same_denominators : (a b c d : ℕ) → IsGcd a b 1 → IsGcd c d 1 → a * d ≡ c * b → b ≡ d
 same_denominators a b c d first second same =
     dvd_antisymm (divides_other b a d (IsGcd-swap a b 1 first) (subst (λ n. b ∣ n) (sym same) (dvd-mul_left b c))) (divides_other d c b (IsGcd-swap c d 1 second) (subst (λ n. d ∣ n) same (dvd-mul_left d a)))
+
+-- a greatest common divisor, and the numbers divided by it
+pub record Cofactors (a b : ℕ) : Type 0 where
+  pub divisor : ℕ
+  pub first : ℕ
+  pub second : ℕ
+  pub greatest : IsGcd a b divisor
+  pub first_whole : first * divisor ≡ a
+  pub second_whole : second * divisor ≡ b
+
+some_gcd : (n a b : ℕ) → b < n → (g : ℕ) × IsGcd a b g
+some_gcd zero a b few = absurd (omega arith)
+some_gcd (suc n) a zero few = (a, IsGcd-from_zero a 0 refl)
+some_gcd (suc n) a (suc b) few =
+    let less : a % suc b < suc b = mod-lt a (omega arith) in
+    let found : (g : ℕ) × IsGcd (suc b) (a % suc b) g = some_gcd n (suc b) (a % suc b) (omega arith) in
+    (found.0, IsGcd-from_mod a (suc b) found.0 found.1)
+
+pub gcd-exists : (a b : ℕ) → Cofactors a b
+gcd-exists a b =
+    let found : (g : ℕ) × IsGcd a b g = some_gcd (suc b) a b (omega arith) in
+    record { divisor = found.0; first = a / found.0; second = b / found.0; greatest = found.1; first_whole = div-mul_cancel found.0 found.1.0; second_whole = div-mul_cancel found.0 found.1.1 }

@@ -3,3 +3,4 @@ pub mod GcdLaws
 pub mod LowestTerms
 pub mod OperationLaws
 pub mod WideProducts
+pub mod ValueLaws

@@ -6,7 +6,7 @@
 //! Each operation answers the lowest terms of its exact value, and refuses exactly where its clause says: a
 //! product by its lowest terms, a sum by the size of what is added. Values are compared by cross products of
 //! any size, so `cmp` is never refused. No call takes memory. `specs/Rational.antt` is the page to read
-//! first.
+//! first, and `laws.rt` says that its words are about values and not about terms.
 //!
 //! ```
 //! let half = Rat::new(1, 2)?;
@@ -17,12 +17,17 @@
 
 mod divisors;
 mod fault;
+mod laws;
 mod rat;
 mod wholes;
 mod wide;
 
 pub use divisors::gcd;
 pub use fault::IntFault;
+pub use laws::{
+    difference_undoes_sum, lowest_terms_are_unique, lowest_terms_exist, order_is_by_value,
+    order_is_total, products_are_by_value, quotient_undoes_product, sums_are_by_value,
+};
 pub use rat::Rat;
 
 #[cfg(test)]
