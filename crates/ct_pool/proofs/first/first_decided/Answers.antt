@@ -1,0 +1,29 @@
+use Rattle.std.proofs.Common.{rules, ◌≡◌, arith, refl, ◌∙◌, sym, subst, List, false, true, ℕ, length, ◌<◌}
+use Rattle.std.specs.Prelude.{All, map}
+use Rattle.std.proofs.lemmas.List.{length-map}
+use Rattle.ct_core.specs.CompleteList.{DecidedBy}
+use Rattle.ct_pool.specs.declared.workers.Worker.{Worker}
+use Rattle.ct_pool.specs.Passes.{PassView}
+use Rattle.ct_pool.specs.Found.{IsFound}
+use Rattle.ct_pool.proofs.Lists.{slice_back}
+use Rattle.ct_pool.proofs.Conclusion.{covers_of, decided_within}
+use Rattle.ct_pool.proofs.first.first_decided.Goals as goal
+
+pub results_of-requires-clause-team : goal.results_of-requires-clause-team
+results_of-requires-clause-team g c κs within =
+    let P : Worker g.row.J-Miss.Denot g.row.J-Hit.Denot → Type 0 = λ w. (w.pass.table ≡ c.in_ok-claims.claims.table) × (w.starved ≡ false → IsFound (g.J.Job.outcome c.args.job.now) c.in_ok-claims.claims.count w.pass.sight w.misses.items w.hit) in
+    subst (All P) (sym (slice_back c.in_ok-team.team.len c.work_all.new.workers _ (search rules))) c.work_all.ensures.found
+
+pub conclude-requires-clause-covers : goal.conclude-requires-clause-covers
+conclude-requires-clause-covers g c κs within =
+    let sights = map (λ (p : PassView). p.sight) c.in_ok-passes.passes.items in
+    let some_one : 0 < length sights = (let n = length-map c.in_ok-passes.passes.items (λ (p : PassView). p.sight) in let ok = c.in_ok-passes.passes.ok in let a = c.in_ok-passes.ensures.size in let b = c.in_ok-team.ensures.team.0 in let e = c.in_ok-claims.ensures.fresh.0 in let w = c.requires.workers.0 in omega arith) in
+    let d = c.gather-closed.ensures.gathered.decided some_one c.in_ok-passes.ensures.ended in
+    covers_of c.args.count c.gather-closed.result.least sights _ c.in_ok-passes.founds.items c.in_ok-passes.ensures.keys (subst (λ (n : ℕ). DecidedBy n sights c.gather-closed.result.least) c.in_ok-claims.ensures.claims d)
+
+pub conclude-requires-clause-within : goal.conclude-requires-clause-within
+conclude-requires-clause-within g c κs within =
+    let sights = map (λ (p : PassView). p.sight) c.in_ok-passes.passes.items in
+    let some_one : 0 < length sights = (let n = length-map c.in_ok-passes.passes.items (λ (p : PassView). p.sight) in let ok = c.in_ok-passes.passes.ok in let a = c.in_ok-passes.ensures.size in let b = c.in_ok-team.ensures.team.0 in let e = c.in_ok-claims.ensures.fresh.0 in let w = c.requires.workers.0 in omega arith) in
+    let d = c.gather-closed.ensures.gathered.decided some_one c.in_ok-passes.ensures.ended in
+    decided_within c.args.count c.in_ok-claims.claims.count c.gather-closed.result.least sights c.in_ok-claims.ensures.claims d
