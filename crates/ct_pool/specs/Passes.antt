@@ -1,13 +1,14 @@
 -- What callers see of the words, the root and the passes, and what each call does to a pass.
 --     PassView, RootView, ClaimsView   the meanings of `Pass`, `Root` and `Claims`
 --     may_claim                        nothing is pending and it is not stopped, or the pending index may be refused
+--     may_hit                          the pending index may be hit
 --     Claimed, Looked                  a pass after the call, in the events of the claim machine, with its answer
 --     IsGathered                       what all passes know together, and the two words
 -- A table's identity names the words that a pass is of.
 use Rattle.std.specs.Prelude.{◌≡◌, ℕ, zero, suc, ◌≤◌, ◌<◌, List, [], ◌∷◌, ◌++◌, Bool, true, Option, Some, None, length, not, nat_lt, if◌then◌else◌, IfSome}
 use Rattle.atomic_table.specs.Seated.{TableId}
 use Rattle.ct_core.specs.Machine.{Sight, fresh}
-use Rattle.ct_core.specs.Steps.{may_end}
+use Rattle.ct_core.specs.Steps.{some_and, may_end}
 use Rattle.ct_core.specs.Counting.{total, times, once_below, Each}
 use Rattle.ct_core.specs.CompleteList.{has_hit, has_ended, DecidedBy}
 use Rattle.ct_pool.specs.Notes.{claims_at, looks_at, least_of}
@@ -39,6 +40,10 @@ passes_of table (suc n) = passes_of table n ++ record { number = n; sight = fres
 abbrev pub may_claim : Sight → Option ℕ → Bool
 may_claim v None = not v.stopped
 may_claim v (Some i) = may_end v i
+
+-- a worker may hit: its pending index may be hit
+abbrev pub may_hit : Sight → Bool
+may_hit v = some_and v.pending (λ i. may_end v i)
 
 -- The pending index is refused, if there is one, and the number n that `next` had is claimed; the answer is n where
 -- it is below the count. It is above what was pending.

@@ -2,10 +2,10 @@
 ghost use Rattle.std.specs.Prelude.{◌≡◌, ℕ, ◌+◌, ◌-◌, ◌*◌, ◌%◌, ◌<◌, ◌≤◌, ◌^◌, true, false, [], IfOk, IfSome, IsSome, length, Option, ◌++◌, ◌∷◌};
 ghost use Rattle.ct_core.specs.declared.event.Event.TheVariants.{Look};
 ghost use Rattle.ct_core.specs.Machine.{fresh};
-ghost use Rattle.ct_core.specs.Steps.{is_legal, may_end};
+ghost use Rattle.ct_core.specs.Steps.{is_legal};
 ghost use Rattle.ct_core.specs.Kept.{Kept};
 ghost use Rattle.ct_pool.specs.Notes.{hits_at};
-ghost use Rattle.ct_pool.specs.Passes.{may_claim, Claimed, Looked};
+ghost use Rattle.ct_pool.specs.Passes.{may_claim, may_hit, Claimed, Looked};
 
 use crate::NoMemory;
 use crate::note::Note;
@@ -172,7 +172,7 @@ impl Claims {
     /// Records the pending index as a hit, in one step.
     pub fn hit(&self, pass: &mut Pass)
         requires table { pass.old.table ≡ self.now.table }
-        requires ready { IfSome pass.old.sight.pending (λ i. may_end pass.old.sight i ≡ true) × IsSome pass.old.sight.pending }
+        requires ready { may_hit pass.old.sight ≡ true }
         ensures unchanged { (pass.new.table ≡ pass.old.table) × (pass.new.number ≡ pass.old.number) }
         ensures hit { IfSome pass.old.sight.pending (λ i. pass.new.sight ≡ hits_at pass.old.sight i) }
     {

@@ -15,11 +15,17 @@
 mod claims;
 mod decision;
 mod first;
+#[cfg(test)]
+mod hand;
 mod job;
 mod misses;
 mod note;
 mod passes;
 mod rule;
+#[cfg(test)]
+mod schedules;
+#[cfg(test)]
+mod tests;
 mod workers;
 
 pub use claims::{Claims, Closed, Pass, Root};
