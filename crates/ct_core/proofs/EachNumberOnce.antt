@@ -2,16 +2,15 @@
 -- Main lemma: `decides`, at the end, which `RunsKeep` and the pool cite.
 -- A worker that has ended keeps a pending index past all that was decided (`ended_above`), so what it claimed below
 -- that it has refuted; and each number below `next` was claimed once.
-use Rattle.std.proofs.Common.{◌≡◌, ◌⊎◌, inl, inr, ⊎_elim, ℕ, zero, suc, ◌+◌, ◌<◌, ◌≤◌, List, [], ◌∷◌, ◌++◌, length, set, Some, None, Option, Bool, true, false, cond, not, ◌&&◌, ◌||◌, refl, sym, ap, ◌∙◌, subst, arith, add-one, min}
-use Rattle.std.specs.Prelude.{slice_get, ◌==◌, nat_lt, nat_le, IfSome, is_some}
-use Rattle.std.proofs.lemmas.Bool.{and_parts, not-true}
+use Rattle.std.proofs.Common.{◌≡◌, ◌⊎◌, inl, inr, ⊎_elim, ℕ, ◌+◌, ◌<◌, ◌≤◌, List, [], ◌∷◌, ◌++◌, length, Some, None, Option, Bool, true, false, ◌&&◌, ◌||◌, refl, sym, ap, ◌∙◌, subst, arith}
+use Rattle.std.specs.Prelude.{◌==◌, nat_lt, nat_le, IfSome, is_some}
 use Rattle.std.proofs.lemmas.Bool.Decides.{nat_tests}
 use Rattle.ct_core.specs.Machine.{Sight}
-use Rattle.ct_core.specs.Counting.{total, one_if, times, once_below, sum_below, Each}
+use Rattle.ct_core.specs.Counting.{total, one_if, times, once_below, Each}
 use Rattle.ct_core.specs.Steps.{some_and, may_stop}
 use Rattle.ct_core.specs.CompleteList.{has_hit, has_ended, DecidedBy}
 use Rattle.ct_core.specs.Kept.{list_of, Reaches, Fits, Kept}
-use Rattle.ct_core.proofs.Totals.{total-append, total_same, total_below, total_zero, each_at, each_set, each_map, each_append, sum_below-times, times_none}
+use Rattle.ct_core.proofs.Totals.{total-append, total_same, total_below, total_zero, each_map, sum_below-times, times_none}
 use Rattle.ct_core.proofs.EventsKeep.{some_and_is}
 
 or_parts : (a b : Bool) → (a || b) ≡ true → (a ≡ true) ⊎ (b ≡ true)
@@ -22,10 +21,7 @@ pub each_both : {X : Type 0} (P Q R : X → Type 0) (xs : List X) → ((x : X) �
 each_both P Q R [] f a b = tt
 each_both P Q R (x ∷ xs) f a b = (f x a.0 b.0, each_both P Q R xs f a.1 b.1)
 
--- all numbers up to x lie below what was decided
-Below : ℕ → Option ℕ → ℕ → Type 0
-Below count least x = (x < count) × IfSome least (λ m. x < m)
-
+-- what was seen is above all that lies below the least hit
 above_seen : (least : Option ℕ) (x s : ℕ) → IfSome least (λ m. x < m) → Reaches least s → x < s
 above_seen None x s i r = absurd r
 above_seen (Some m) x s i r = omega arith
@@ -67,9 +63,6 @@ ended_above count x least None v is e below low f =
 
     later : (x s p : ℕ) → x < s → nat_lt s p ≡ true → x < p
     later x s p h q = grind (arith, nat_tests)
-
-times_one : (x p : ℕ) → times x (p ∷ []) ≡ one_if (p == x) + 0
-times_one x p = refl
 
 claims_at : (count x p : ℕ) (least : Option ℕ) (v : Sight) → v.pending ≡ Some p → Fits count least v → times x v.claims ≡ times x v.refuted + one_if (p == x)
 claims_at count x p least v is f =

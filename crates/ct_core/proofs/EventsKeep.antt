@@ -2,14 +2,14 @@
 -- Main lemma: `keeps`, at the end, which `RunsKeep` cites, and so does each step of the pool on its two words.
 -- Only the view at one place changes (`changes`); what the event leaves of it is said for each kind of event
 -- (`claim_fits`, `look_fits`, `refuse_fits`, `hit_fits`, `stop_fits`), and a hit is counted once more (`hit_counts`).
-use Rattle.std.proofs.Common.{◌≡◌, ◌⊎◌, inl, inr, ⊎_elim, ℕ, zero, suc, ◌+◌, ◌<◌, ◌≤◌, List, [], ◌∷◌, ◌++◌, length, set, Some, None, Option, Bool, true, false, cond, not, ◌&&◌, ◌||◌, refl, sym, ap, ◌∙◌, subst, arith, add-one, min, append-nil}
+use Rattle.std.proofs.Common.{◌≡◌, ◌⊎◌, ⊎_elim, ℕ, ◌+◌, ◌<◌, ◌≤◌, List, [], ◌∷◌, ◌++◌, set, Some, None, Option, Bool, true, false, ◌&&◌, ◌||◌, refl, sym, ap, ◌∙◌, subst, arith, add-one, min, append-nil}
 use Rattle.std.specs.Prelude.{slice_get, ◌==◌, nat_lt, nat_le, IfSome, is_some}
 use Rattle.std.proofs.lemmas.Bool.{and_parts, not-true}
 use Rattle.std.proofs.lemmas.Bool.Decides.{nat_tests}
 use Rattle.ct_core.specs.declared.event.Event.{Event}
 use Rattle.ct_core.specs.declared.event.Event.TheVariants.{Claim, Look, Refuse, Hit, Stop}
 use Rattle.ct_core.specs.Machine.{Sight}
-use Rattle.ct_core.specs.Counting.{total, one_if, times, once_below, sum_below, Each}
+use Rattle.ct_core.specs.Counting.{total, one_if, sum_below}
 use Rattle.ct_core.specs.Steps.{some_and, none_or, may_end, may_stop, is_legal, view_after, next_after, least_after, least_with}
 use Rattle.ct_core.specs.CompleteList.{has_hit}
 use Rattle.ct_core.specs.Kept.{list_of, Reaches, Fits, Kept}
@@ -19,10 +19,6 @@ use Rattle.ct_core.proofs.Totals.{total-append, total_set, each_at, each_set, ea
 pub some_and_is : (o : Option ℕ) (p : ℕ → Bool) → some_and o p ≡ true → (x : ℕ) × (o ≡ Some x) × (p x ≡ true)
 some_and_is None p e = absurd (cc)
 some_and_is (Some x) p e = (x, refl, e)
-
-pub none_or_is : (o : Option ℕ) (p : ℕ → Bool) → none_or o p ≡ true → IfSome o (λ x. p x ≡ true)
-none_or_is None p e = tt
-none_or_is (Some x) p e = e
 
 none_is : (o : Option ℕ) → none_or o (λ _. false) ≡ true → o ≡ None
 none_is None e = refl
@@ -45,7 +41,6 @@ pub record Ends (v : Sight) (i : ℕ) : Type 0 where
   pub on : v.stopped ≡ false
   pub pends : v.pending ≡ Some i
   pub looks : v.looked ≡ true
-  pub sees : IfSome v.seen (λ s. i ≤ s)
 
 pub ends_is : (v : Sight) (i : ℕ) → may_end v i ≡ true → Ends v i
 ends_is v i e =
@@ -58,7 +53,6 @@ ends_is v i e =
       on = not-true v.stopped a.0;
       pends = p.1 ∙ ap Some same;
       looks = c.0;
-      sees = if_some (λ s. nat_le i s ≡ true) (λ s. i ≤ s) v.seen (λ s h. grind (arith, nat_tests)) (none_or_is v.seen (λ s. nat_le i s) c.1);
     }
 
 -- one view changes

@@ -2,19 +2,16 @@
 -- Main lemma: `run_first_hit`, at the end, which the clause `first_hit` of `replay` cites.
 -- What the views have refuted are misses and what they have hit are hits, after each event (`run_knows`); with what a
 -- complete run has decided this names the first hit.
-use Rattle.std.proofs.Common.{◌≡◌, ◌≢◌, ◌⊎◌, ⊎_elim, ℕ, zero, suc, ◌+◌, ◌<◌, ◌≤◌, List, [], ◌∷◌, ◌++◌, length, get_or, set, Some, None, Option, Bool, true, false, refl, sym, ap, ◌∙◌, subst, arith, add-one, take, length-set}
-use Rattle.std.specs.Prelude.{slice_get, slice_set, if◌then◌else◌, replicate, IfSome, ◌==◌, nat_lt, nat_le}
-use Rattle.std.proofs.lemmas.List.{length-replicate, take_more}
-use Rattle.std.proofs.lemmas.Option.{slice_get_read, slice_get_past}
+use Rattle.std.proofs.Common.{◌≡◌, ◌≢◌, ⊎_elim, ℕ, zero, suc, ◌<◌, List, [], ◌∷◌, Some, None, Option, Bool, true, false, refl, ap, ◌∙◌, subst, arith, take}
+use Rattle.std.specs.Prelude.{slice_get, if◌then◌else◌, replicate, IfSome, ◌==◌}
 use Rattle.std.proofs.lemmas.Bool.Decides.{eqb_tells, nat_tests}
 use Rattle.ct_core.specs.declared.event.Event.{Event}
 use Rattle.ct_core.specs.declared.event.Event.TheVariants.{Claim, Look, Refuse, Hit, Stop}
 use Rattle.ct_core.specs.Machine.{Sight, Machine, fresh, start_of}
-use Rattle.ct_core.specs.Steps.{some_and, is_legal, view_after, machine_after, step_at, step_of, worker_of, next_after, least_after}
+use Rattle.ct_core.specs.Steps.{some_and, is_legal, view_after, machine_after, step_at, step_of, worker_of}
 use Rattle.ct_core.specs.Runs.{run_of}
-use Rattle.ct_core.specs.Counting.{total, times, one_if, once_below, sum_below, Each}
-use Rattle.ct_core.specs.CompleteList.{has_hit, has_ended, DecidedBy, IsComplete, Decided, Agrees, IsFaithful, IsFirstHit, first_from, decision_of, events_from}
-use Rattle.ct_core.specs.Kept.{Kept, Fits}
+use Rattle.ct_core.specs.Counting.{total, times, one_if, once_below, Each}
+use Rattle.ct_core.specs.CompleteList.{has_hit, DecidedBy, IsComplete, Agrees, IsFaithful, IsFirstHit}
 use Rattle.ct_core.proofs.Totals.{each_append, each_at, each_set, each_map, total_zero}
 use Rattle.ct_core.proofs.RunsKeep.{next_run, run_decides, run_counts}
 

@@ -1,19 +1,15 @@
 -- What one worker decides who tries the indices in order, and that every complete and faithful list decides the same.
 -- Main lemmas: `decides_alike` and `lone_decides`, at the end, which the two laws cite.
 -- The first hit is unique (`first_from-is`). The lone worker's events are run one by one, from any index on.
-use Rattle.std.proofs.Common.{◌≡◌, ◌≢◌, ◌⊎◌, ⊎_elim, ℕ, zero, suc, ◌+◌, ◌<◌, ◌≤◌, List, [], ◌∷◌, ◌++◌, length, get_or, set, Some, None, Option, Bool, true, false, refl, sym, ap, ◌∙◌, subst, arith, add-one, take, length-set}
-use Rattle.std.specs.Prelude.{slice_get, slice_set, if◌then◌else◌, replicate, IfSome, ◌==◌, ◌||◌, nat_lt, nat_le}
-use Rattle.std.proofs.lemmas.List.{length-replicate, take_more}
-use Rattle.std.proofs.lemmas.Option.{slice_get_read, slice_get_past}
-use Rattle.std.proofs.lemmas.Bool.Decides.{eqb_tells, nat_tests}
+use Rattle.std.proofs.Common.{◌≡◌, ◌⊎◌, ⊎_elim, ℕ, zero, suc, ◌+◌, ◌<◌, ◌≤◌, List, [], ◌∷◌, ◌++◌, Some, None, Option, Bool, true, false, refl, ap, ◌∙◌, arith}
+use Rattle.std.specs.Prelude.{if◌then◌else◌, ◌==◌, ◌||◌, nat_lt, nat_le}
+use Rattle.std.proofs.lemmas.Bool.Decides.{nat_tests}
 use Rattle.ct_core.specs.declared.event.Event.{Event}
 use Rattle.ct_core.specs.declared.event.Event.TheVariants.{Claim, Look, Refuse, Hit, Stop}
-use Rattle.ct_core.specs.Machine.{Sight, Machine, fresh, start_of}
-use Rattle.ct_core.specs.Steps.{some_and, is_legal, view_after, machine_after, step_at, step_of, worker_of, next_after, least_after}
+use Rattle.ct_core.specs.Machine.{Sight, Machine, start_of}
+use Rattle.ct_core.specs.Steps.{is_legal, machine_after, step_of}
 use Rattle.ct_core.specs.Runs.{run_of}
-use Rattle.ct_core.specs.Counting.{total, times, one_if, once_below, sum_below, Each}
-use Rattle.ct_core.specs.CompleteList.{has_hit, has_ended, DecidedBy, IsComplete, Decided, Agrees, IsFaithful, IsFirstHit, first_from, decision_of, events_from}
-use Rattle.ct_core.specs.Kept.{Kept, Fits}
+use Rattle.ct_core.specs.CompleteList.{IsComplete, IsFaithful, IsFirstHit, first_from, decision_of, events_from}
 use Rattle.std.proofs.lemmas.Bool.{and_from}
 use Rattle.ct_core.proofs.RunsKeep.{step_is, run_step}
 use Rattle.ct_core.proofs.FirstHit.{run_first_hit}

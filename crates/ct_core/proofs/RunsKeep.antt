@@ -2,18 +2,17 @@
 -- Main lemma: `run_decides`, at the end, which the clause `decided` of `replay` cites: a complete run has decided.
 -- A step is legal or none (`step_is`, `step_none`); a run is its steps (`run_step`, `run_push`), and what each step
 -- keeps the run keeps (`run_keeps`).
-use Rattle.std.proofs.Common.{◌≡◌, ◌≢◌, ◌⊎◌, ⊎_elim, ℕ, zero, suc, ◌+◌, ◌<◌, ◌≤◌, List, [], ◌∷◌, ◌++◌, length, get_or, set, Some, None, Option, Bool, true, false, refl, sym, ap, ◌∙◌, subst, arith, add-one, take, length-set}
-use Rattle.std.specs.Prelude.{slice_get, slice_set, if◌then◌else◌, replicate, IfSome, ◌==◌, nat_lt, nat_le}
+use Rattle.std.proofs.Common.{◌≡◌, ℕ, zero, suc, ◌+◌, ◌<◌, ◌≤◌, List, [], ◌∷◌, ◌++◌, length, get_or, set, Some, None, Option, Bool, true, false, refl, sym, ap, ◌∙◌, subst, arith, take, length-set}
+use Rattle.std.specs.Prelude.{slice_get, if◌then◌else◌, replicate}
 use Rattle.std.proofs.lemmas.List.{length-replicate, take_more}
-use Rattle.std.proofs.lemmas.Option.{slice_get_read, slice_get_past}
-use Rattle.std.proofs.lemmas.Bool.Decides.{eqb_tells, nat_tests}
+use Rattle.std.proofs.lemmas.Option.{slice_get_read}
 use Rattle.ct_core.specs.declared.event.Event.{Event}
 use Rattle.ct_core.specs.declared.event.Event.TheVariants.{Claim, Look, Refuse, Hit, Stop}
 use Rattle.ct_core.specs.Machine.{Sight, Machine, fresh, start_of}
-use Rattle.ct_core.specs.Steps.{some_and, is_legal, view_after, machine_after, step_at, step_of, worker_of, next_after, least_after}
+use Rattle.ct_core.specs.Steps.{is_legal, view_after, machine_after, step_at, step_of, worker_of, next_after, least_after}
 use Rattle.ct_core.specs.Runs.{run_of}
-use Rattle.ct_core.specs.Counting.{total, times, one_if, once_below, sum_below, Each}
-use Rattle.ct_core.specs.CompleteList.{has_hit, has_ended, DecidedBy, IsComplete, Decided, Agrees, IsFaithful, IsFirstHit, first_from, decision_of, events_from}
+use Rattle.ct_core.specs.Counting.{total, Each}
+use Rattle.ct_core.specs.CompleteList.{has_ended, IsComplete, Decided}
 use Rattle.ct_core.specs.Kept.{Kept, Fits}
 use Rattle.ct_core.proofs.EventsKeep.{keeps}
 use Rattle.ct_core.proofs.EachNumberOnce.{decides, each_both, ended_once_stopped}
@@ -26,9 +25,6 @@ step_none s e v at legal = ap (λ o. step_at s o e) at ∙ ap (λ b. if b then S
 
 pub refuses : (s : Machine) (e : Event) (v : Sight) (w : ℕ) → w ≡ worker_of e → w < length s.views → v ≡ get_or s.views w v → false ≡ is_legal s.count v e → step_of s e ≡ None
 refuses s e v w is within at legal = step_none s e v (ap (slice_get s.views) (sym is) ∙ slice_get_read s.views (length s.views) w v refl within at) (sym legal)
-
-pub refuses_past : (s : Machine) (e : Event) (w : ℕ) → w ≡ worker_of e → length s.views ≤ w → step_of s e ≡ None
-refuses_past s e w is past = ap (λ o. step_at s o e) (ap (slice_get s.views) (sym is) ∙ slice_get_past s.views w past)
 
 same_item : {X : Type 0} (xs : List X) (w : ℕ) (v u : X) → w < length xs → v ≡ get_or xs w v → u ≡ get_or xs w u → v ≡ u
 same_item xs w v u within a b =

@@ -1,7 +1,7 @@
 -- Totals over lists, and what each element meets, under the changes that a run makes.
 -- Main lemmas: `total_set` and `each_set`, one element changes; `sum_below-times`, each number below n stands once.
-use Rattle.std.proofs.Common.{◌≡◌, ◌⊎◌, ℕ, zero, suc, ◌+◌, ◌<◌, ◌≤◌, List, [], ◌∷◌, ◌++◌, length, set, Some, None, Bool, true, false, cond, refl, sym, ap, ◌∙◌, subst, arith, add-one}
-use Rattle.std.specs.Prelude.{slice_get, ◌==◌, nat_lt, replicate}
+use Rattle.std.proofs.Common.{◌≡◌, ℕ, zero, suc, ◌+◌, ◌<◌, ◌≤◌, List, [], ◌∷◌, ◌++◌, set, Some, refl, ap, subst, arith}
+use Rattle.std.specs.Prelude.{slice_get, ◌==◌}
 use Rattle.std.proofs.lemmas.Bool.Decides.{nat_tests}
 use Rattle.ct_core.specs.Counting.{total, one_if, times, once_below, sum_below, Each}
 

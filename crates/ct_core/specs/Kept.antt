@@ -4,8 +4,8 @@
 -- That each number below `next` stands once in the claims of one view, and no other number stands there, is
 -- said of every weight h at once: `total h claims`, over all views, is `sum_below h next`.
 -- `ct_pool` keeps the same over the views of all its seats.
-use Rattle.std.specs.Prelude.{◌≡◌, ℕ, ◌<◌, ◌≤◌, List, [], ◌∷◌, ◌++◌, Bool, true, ◌||◌, Option, Some, None, is_some, IfSome}
-use Rattle.ct_core.specs.Machine.{Sight, Machine}
+use Rattle.std.specs.Prelude.{◌≡◌, ℕ, ◌<◌, ◌≤◌, List, [], ◌∷◌, ◌++◌, true, ◌||◌, Option, Some, None, is_some, IfSome}
+use Rattle.ct_core.specs.Machine.{Sight}
 use Rattle.ct_core.specs.Steps.{may_stop}
 use Rattle.ct_core.specs.Counting.{total, sum_below, Each}
 use Rattle.ct_core.specs.CompleteList.{has_hit}

@@ -8,7 +8,7 @@
 --     is_legal count view event         whether it may come
 --     view_after, next_after, least_after   its effect on the view and on the two words
 --     step_of machine event             the machine after it, or none where it is not legal
-use Rattle.std.specs.Prelude.{◌≡◌, ℕ, ◌+◌, min, List, [], ◌∷◌, ◌++◌, Bool, true, false, not, ◌&&◌, ◌||◌, ◌==◌, nat_lt, nat_le, Option, Some, None, slice_get, slice_set, if◌then◌else◌}
+use Rattle.std.specs.Prelude.{◌≡◌, ℕ, ◌+◌, min, [], ◌∷◌, ◌++◌, Bool, true, false, not, ◌&&◌, ◌||◌, ◌==◌, nat_lt, nat_le, Option, Some, None, slice_get, slice_set, if◌then◌else◌}
 use Rattle.ct_core.specs.Machine.{Sight, Machine}
 use Rattle.ct_core.specs.declared.event.Event.{Event}
 use Rattle.ct_core.specs.declared.event.Event.TheVariants.{Claim, Look, Refuse, Hit, Stop}

@@ -11,6 +11,7 @@ use Rattle.ct_core.specs.Kept.{Kept, Fits, Reaches}
 use Rattle.ct_core.proofs.Totals.{each_map, sum_below-times}
 use Rattle.ct_core.proofs.EachNumberOnce.{decides}
 use Rattle.ct_pool.specs.Passes.{RootView, IsLeastHit, IsGathered}
+use Rattle.ct_pool.proofs.Places.{next_bound}
 
 -- two tellings of the same views
 one_next : (count n m : ℕ) (k l : Option ℕ) (views : List Sight) → Kept count n k views → Kept count m l views → Kept count n l views
@@ -58,6 +59,7 @@ least_of_all count next (Some m) views k = (k.least_hit, each_map (Fits count (S
 pub gathered : (count next : ℕ) (least : Option ℕ) (views : List Sight) → Kept count next least views → IsGathered count next least views
 gathered count next least views k = record {
   claims = λ x. k.claimed (λ y. one_if (y == x)) ∙ sum_below-times x next;
+  most = next_bound count next least views k;
   least_hit = least_of_all count next least views k;
   decided = λ some_one ended. decides count next views least some_one k ended;
 }

@@ -1,6 +1,6 @@
 -- Where a worker's view stands in the list of all views, and how far the first word goes.
 -- Main lemmas: `stands`, a live seat's view has a place there, and a change at the seat is a change at that place;
--- `next_bound`, at most one claim of each worker is at or past the count. `RuleByWorkers` cites both.
+-- `next_bound`, at most one claim of each worker is at or past the count. `RuleByWorkers` cites both, `Gathered` the second.
 use Rattle.std.proofs.Common.{◌≡◌, ◌≢◌, ◌⊎◌, ⊎_elim, ℕ, zero, suc, ◌+◌, ◌<◌, ◌≤◌, List, [], ◌∷◌, ◌++◌, length, set, Some, None, Option, Bool, true, false, refl, sym, ap, ◌∙◌, subst, arith, length-append, length-set}
 use Rattle.std.specs.Prelude.{slice_get, nat_le, ◌==◌, if◌then◌else◌}
 use Rattle.std.proofs.lemmas.Bool.Decides.{nat_tests}

@@ -1,5 +1,5 @@
 -- The root's steps keep the rule: making a worker's seat, taking one back, and loading each word once all are back.
--- Main lemmas: `splits`, `merges`, `tells_next`, `tells_least`, and `opens` for the start; the forms that end in `_key`
+-- Main lemmas: `splits`, `merges`, `tells_next`, `tells_least`; the forms that end in `_key`
 -- are what the calls of `Claims` cite.
 -- The machine's `Kept` names no order of the views, so views that move from a seat to the root's list keep it (`kept_by`).
 use Rattle.std.proofs.Common.{◌≡◌, ◌≢◌, ◌⊎◌, ⊎_elim, ℕ, zero, suc, ◌+◌, ◌<◌, ◌≤◌, List, [], ◌∷◌, ◌++◌, length, set, Some, None, Option, Bool, true, false, refl, sym, ap, ◌∙◌, subst, arith, length-append, length-set, append-nil, append_assoc}
@@ -38,9 +38,6 @@ kept_by count next least xs ys same each k = record {
   fits = each (Fits count least) (fresh_fits count least) k.fits;
   least_hit = if_some (λ m. 1 ≤ total (has_hit m) xs) (λ m. 1 ≤ total (has_hit m) ys) least (λ m h. let s = same (has_hit m) refl in omega arith) k.least_hit;
 }
-
-root_flat : (count made made' : ℕ) (joined : List Sight) → sights_of (root_note count made joined) ≡ sights_of (root_note count made' joined)
-root_flat count made made' joined = refl
 
 set_root : (views : List Note) (count made made' : ℕ) (joined : List Sight) → get_elem? views 0 ≡ some (root_note count made joined) → (flat (set views 0 (root_note count made' joined)) ≡ flat views) × (get_elem? (set views 0 (root_note count made' joined)) 0 ≡ some (root_note count made' joined))
 set_root [] count made made' joined e = absurd (some-ne-none _ (sym e))
@@ -240,10 +237,6 @@ pub tells_least_as : {S : Type 0} (count slots id : ℕ) (me : Me S Note) → me
 tells_least_as {S = S} count slots id me is id_is =
     let P : Me S Note → Type 0 = λ m. Allows {S = S} {V = Note} (IsRuled count) slots id m 1 (λ n. n) (λ n w. (w ≡ m) × (AllBack m.0 → (next : ℕ) × Kept m.0.count next (least_of n) m.0.joined)) in
     subst P (sym is) (tells_least {S = S} count slots id me.0.made me.0.joined id_is)
-
--- the rule at the start
-pub opens : {S : Type 0} (count : ℕ) → count ≤ 65535 → IsRuled {S = S} count (record { words = 0 ∷ 18446744073709551615 ∷ []; homes = []; views = root_note count 0 [] ∷ [] })
-opens count small = record { next = 0; least = None; made = 0; joined = []; words = refl; kept = record { claimed = λ h. refl; fits = tt; least_hit = tt }; root = refl; size = refl; most = omega arith; small = small }
 
 pub splits_key : {S : Type 0} (key id : ℕ) (me : Me S Note) → me.0.count ≡ key → me ≡ (root_note me.0.count me.0.made me.0.joined, []) → id ≡ 0 → me.0.made < 16 → Splits {S = S} {V = Note} (IsRuled key) id me.0 (root_note me.0.count (me.0.made + 1) me.0.joined) (live_note fresh)
 splits_key {S = S} key id me k is id_is room = subst (λ c. Splits {S = S} {V = Note} (IsRuled c) id me.0 (root_note me.0.count (me.0.made + 1) me.0.joined) (live_note fresh)) k (splits_as {S = S} me.0.count id me.0 (ap (λ (m : Me S Note). m.0) is) id_is room)

@@ -122,9 +122,6 @@ told_least count next (Some m) views small k = let b = least_below count next vi
     other : (m : ℕ) → m < 18446744073709551615 → least_of m ≡ Some m
     other m h = let e : (m == 18446744073709551615) ≡ false = grind (arith, nat_tests) in ap (λ (b : Bool). if b then None else Some m) e
 
-may_look : ℕ → Sight → Bool
-may_look count v = is_legal count v (Look 0)
-
 pub looks : {S : Type 0} (count slots id : ℕ) (v : Sight) → is_legal count v (Look 0) ≡ true → Allows {S = S} {V = Note} (IsRuled count) slots id (live_note v, []) 1 (λ n. n) (λ n w. w ≡ (live_note (looks_at v n), []))
 looks count slots id v may s r len at fits =
     let n = slice_index s.words 1 in

@@ -5,7 +5,7 @@
 --     Claimed, Looked                  a pass after the call, in the events of the claim machine, with its answer
 --     IsGathered                       what all passes know together, and the two words
 -- A table's identity names the words that a pass is of.
-use Rattle.std.specs.Prelude.{◌≡◌, ℕ, zero, suc, ◌≤◌, ◌<◌, List, [], ◌∷◌, ◌++◌, Bool, true, Option, Some, None, length, not, nat_lt, if◌then◌else◌, IfSome}
+use Rattle.std.specs.Prelude.{◌≡◌, ℕ, zero, suc, ◌+◌, ◌≤◌, ◌<◌, List, [], ◌∷◌, ◌++◌, Bool, true, Option, Some, None, length, not, nat_lt, if◌then◌else◌, IfSome}
 use Rattle.atomic_table.specs.Seated.{TableId}
 use Rattle.ct_core.specs.Machine.{Sight, fresh}
 use Rattle.ct_core.specs.Steps.{some_and, may_end}
@@ -63,6 +63,8 @@ IsLeastHit views (Some m) = (1 ≤ total (has_hit m) views) × Each (λ v. IfSom
 pub record IsGathered (count next : ℕ) (least : Option ℕ) (views : List Sight) : Type 0 where
   -- each number below `next` stands once in the claims of one pass, and no other number stands there
   pub claims : (x : ℕ) → total (λ v. times x v.claims) views ≡ once_below x next
+  -- at most one claim of each pass is at or past the count
+  pub most : next ≤ count + length views
   pub least_hit : IsLeastHit views least
   -- once every pass has ended, each number below the least hit is refuted once, or each below the count
   pub decided : 0 < length views → Each (λ v. has_ended count v ≡ true) views → DecidedBy count views least

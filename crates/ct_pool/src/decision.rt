@@ -10,6 +10,7 @@ use crate::misses::{fill, in_order};
 use std::alloc::Global;
 
 /// The first index that was decided, or that none was.
+#[derive(Debug, Drop)]
 pub enum Decision<M, H> {
     /// The least index whose outcome is a hit, that hit, and the misses of all smaller indices in order.
     Hit { index: u64, hit: H, misses: Vec<M> },

@@ -3,6 +3,7 @@ use crate::NoMemory;
 use std::alloc::Global;
 
 /// What an attempt finds at an index.
+#[derive(Debug, Drop)]
 pub enum Outcome<M, H> {
     Miss(M),
     Hit(H),

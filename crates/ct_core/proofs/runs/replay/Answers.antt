@@ -1,4 +1,4 @@
-use Rattle.std.proofs.Common.{◌≡◌, ◌≤◌, ◌+◌, arith}
+use Rattle.std.proofs.Common.{◌≤◌, ◌+◌, arith}
 use Rattle.ct_core.proofs.RunsKeep.{run_more, step_up, run_decides}
 use Rattle.ct_core.specs.CompleteList.{Agrees}
 use Rattle.ct_core.proofs.FirstHit.{run_first_hit, each_take}

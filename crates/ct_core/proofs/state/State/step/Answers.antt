@@ -1,4 +1,4 @@
-use Rattle.std.proofs.Common.{◌≡◌, ◌∙◌, sym, refl, ap, arith, Some, length}
+use Rattle.std.proofs.Common.{◌∙◌, sym, refl, arith}
 use Rattle.ct_core.proofs.RunsKeep.{refuses, accepts}
 use Rattle.ct_core.proofs.state.State.step.Goals as goal
 
