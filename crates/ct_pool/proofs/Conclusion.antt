@@ -2,25 +2,21 @@
 -- Main lemmas: `begins` and the three `.._goes`, each turn of `conclude`'s loop keeps `Concluding`; `covers_of`, what the
 -- passes have decided covers each index below the bound.
 -- Each index below the bound is a miss of someone, so a slot that is still empty has its miss still to come.
-use Rattle.std.proofs.Common.{◌≡◌, ◌≢◌, ◌⊎◌, ⊎_elim, ℕ, zero, suc, ◌+◌, ◌<◌, ◌≤◌, List, [], ◌∷◌, ◌++◌, length, Some, None, Option, Bool, true, false, refl, sym, ap, ◌∙◌, subst, arith}
+use Rattle.std.proofs.Common.{◌≡◌, ◌≢◌, ℕ, zero, suc, ◌<◌, ◌≤◌, List, [], ◌∷◌, ◌++◌, length, Some, None, Option, refl, sym, ap, ◌∙◌, subst, arith}
 use Rattle.std.specs.Prelude.{slice_get, map, ◌==◌, replicate}
 use Rattle.std.proofs.lemmas.Bool.Decides.{nat_tests}
 use Rattle.std.proofs.lemmas.List.{length-replicate}
-use Rattle.std.proofs.lemmas.Option.{slice_get_within}
 use Rattle.ct_core.specs.Counting.{total, times, one_if, Each}
 use Rattle.ct_core.proofs.Totals.{total-append, each_here, each_there}
 use Rattle.ct_pool.specs.declared.job.Outcome.{Outcome}
-use Rattle.ct_pool.specs.declared.job.Outcome.TheVariants.{Miss, Hit}
+use Rattle.ct_pool.specs.declared.job.Outcome.TheVariants.{Hit}
 use Rattle.ct_pool.specs.Found.{FoundValue, AreSlots, AreFound, LeftEmpty, Covers, numbers_of, hits_of, bound_of}
 use Rattle.std.specs.Prelude.{IfSome}
 use Rattle.ct_core.specs.Counting.{once_below}
 use Rattle.ct_core.specs.Machine.{Sight}
 use Rattle.ct_core.specs.CompleteList.{DecidedBy}
 use Rattle.ct_core.specs.Steps.{some_and}
-use Rattle.ct_core.proofs.Totals.{each_append}
-use Rattle.ct_pool.proofs.Lists.{map_push}
 use Rattle.ct_pool.specs.Found.{key_of, key_found}
-use Rattle.ct_pool.specs.Found.{AreMisses}
 
 -- how often k is among the indices of a worker's misses
 abbrev pub times_found : {M H : Type 0} → ℕ → FoundValue M H → ℕ

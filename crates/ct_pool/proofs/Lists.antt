@@ -1,7 +1,7 @@
 -- Lists that grow and shrink at the end.
 -- Main lemmas: `all_push`, `all_pop`, `each_push`, `maps_push`: what each element meets, and equal maps, with one more
 -- element or one less; `all_reverse`; `slice_back`, a vector lent as a slice comes back whole.
-use Rattle.std.proofs.Common.{◌≡◌, ℕ, zero, suc, ◌+◌, ◌<◌, List, [], ◌∷◌, ◌++◌, length, refl, sym, ap, ◌∙◌, subst, arith}
+use Rattle.std.proofs.Common.{◌≡◌, ℕ, zero, suc, List, [], ◌∷◌, ◌++◌, length, refl, sym, ap, ◌∙◌, subst, arith}
 use Rattle.std.specs.Prelude.{map, All, take, reverse}
 use Rattle.std.proofs.lemmas.List.{reverse-append}
 use Rattle.ct_core.specs.Counting.{Each}

@@ -2,15 +2,15 @@
 -- Main lemmas: `splits`, `merges`, `tells_next`, `tells_least`; the forms that end in `_key`
 -- are what the calls of `Claims` cite.
 -- The machine's `Kept` names no order of the views, so views that move from a seat to the root's list keep it (`kept_by`).
-use Rattle.std.proofs.Common.{◌≡◌, ◌≢◌, ◌⊎◌, ⊎_elim, ℕ, zero, suc, ◌+◌, ◌<◌, ◌≤◌, List, [], ◌∷◌, ◌++◌, length, set, Some, None, Option, Bool, true, false, refl, sym, ap, ◌∙◌, subst, arith, length-append, length-set, append-nil, append_assoc}
+use Rattle.std.proofs.Common.{◌≡◌, ℕ, zero, suc, ◌+◌, ◌<◌, ◌≤◌, List, [], ◌∷◌, ◌++◌, length, set, Some, None, Option, refl, sym, ap, ◌∙◌, subst, arith, length-append, append-nil, append_assoc}
 use Rattle.std.specs.Prelude.{slice_index, IfSome}
 use mathlib.Core.Option.{some, some-injective, some-ne-none}
 use lib.ListN.{get_elem?}
-use Rattle.atomic_table.specs.Table.{State, Step, Me, Act, Allows, Splits, Joins}
+use Rattle.atomic_table.specs.Table.{State, Me, Allows, Splits, Joins}
 use Rattle.atomic_table.specs.Table.Act.{keeps as holds_still}
 use Rattle.atomic_table.proofs.Lists.{set_again}
 use Rattle.ct_core.specs.Machine.{Sight}
-use Rattle.ct_core.specs.Counting.{total, sum_below, Each}
+use Rattle.ct_core.specs.Counting.{total, Each}
 use Rattle.ct_core.specs.CompleteList.{has_hit}
 use Rattle.ct_core.specs.Kept.{Kept, Fits}
 use Rattle.ct_core.specs.Machine.{fresh}

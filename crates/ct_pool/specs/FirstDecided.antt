@@ -4,7 +4,7 @@
 --                                or all misses
 -- The list of misses is one equation with the outcomes of all smaller indices: none of them is a hit, and none
 -- is left out. So a hit is answered exactly where there is one, and it is the least.
-use Rattle.std.specs.Prelude.{◌≡◌, ℕ, zero, suc, ◌+◌, ◌<◌, List, [], ◌∷◌, ◌++◌, map}
+use Rattle.std.specs.Prelude.{◌≡◌, ℕ, zero, suc, ◌<◌, List, [], ◌∷◌, ◌++◌, map}
 use Rattle.ct_pool.specs.declared.job.Outcome.{Outcome}
 use Rattle.ct_pool.specs.declared.job.Outcome.TheVariants.{Miss, Hit as HitOf}
 use Rattle.ct_pool.specs.declared.decision.Decision.{Decision}

@@ -4,7 +4,7 @@
 --     key_of, key_found    the indices of a view, and of what its worker brings back
 --     Covers               each index below the bound is a miss of someone, and the least hit is someone's
 --     AreSlots, LeftEmpty  misses in the slots of their indices
-use Rattle.std.specs.Prelude.{◌≡◌, ℕ, ◌+◌, ◌<◌, ◌≤◌, List, map, Bool, true, Option, Some, None, slice_get, ◌==◌, IfSome}
+use Rattle.std.specs.Prelude.{◌≡◌, ℕ, ◌<◌, ◌≤◌, List, map, true, Option, Some, None, slice_get, ◌==◌, IfSome}
 use Rattle.ct_core.specs.Counting.{Each, total, times, one_if}
 use Rattle.ct_core.specs.Steps.{some_and}
 use Rattle.ct_core.specs.Machine.{Sight}

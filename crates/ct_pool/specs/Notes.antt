@@ -4,7 +4,7 @@
 --     word_of, least_of                  `least` as a word, with 2^64-1 for none, and back
 --     claims_at, looks_at, hits_at       what a worker knows after its step, by the claim machine's events
 -- A worker's step is the machine's event with the word that it found. Here the event's worker number plays no part.
-use Rattle.std.specs.Prelude.{◌≡◌, ℕ, ◌+◌, List, [], ◌∷◌, ◌++◌, Bool, true, false, ◌==◌, Option, Some, None, if◌then◌else◌}
+use Rattle.std.specs.Prelude.{ℕ, List, [], ◌∷◌, ◌++◌, true, false, ◌==◌, Option, Some, None, if◌then◌else◌}
 use Rattle.ct_core.specs.Machine.{Sight, fresh}
 use Rattle.ct_core.specs.Steps.{view_after}
 use Rattle.ct_core.specs.declared.event.Event.TheVariants.{Claim, Look, Refuse, Hit}

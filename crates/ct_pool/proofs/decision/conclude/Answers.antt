@@ -1,4 +1,4 @@
-use Rattle.std.proofs.Common.{rules, ◌≡◌, ℕ, arith, length, ◌∙◌, ap, refl, None, Some, ◌++◌, ◌∷◌, []}
+use Rattle.std.proofs.Common.{rules, ◌∙◌, ap, None}
 use Rattle.std.specs.Prelude.{map, replicate}
 use Rattle.ct_pool.specs.Found.{AreFound}
 use Rattle.ct_pool.proofs.Lists.{map_push, each_of_map}

@@ -1,4 +1,4 @@
-use Rattle.std.proofs.Common.{rules, ◌≡◌, arith, refl, ◌∙◌, sym, subst, List, false, true, ℕ, length, ◌<◌}
+use Rattle.std.proofs.Common.{rules, ◌≡◌, arith, sym, subst, false, ℕ, length, ◌<◌}
 use Rattle.std.specs.Prelude.{All, map}
 use Rattle.std.proofs.lemmas.List.{length-map}
 use Rattle.ct_core.specs.CompleteList.{DecidedBy}

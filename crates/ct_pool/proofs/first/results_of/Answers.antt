@@ -1,10 +1,9 @@
-use Rattle.std.proofs.Common.{rules, ◌≡◌, ◌++◌, ◌∷◌, [], true, false, arith, ap, ◌∙◌, refl}
-use Rattle.std.specs.Prelude.{map, All}
-use Rattle.ct_core.specs.Machine.{Sight}
+use Rattle.std.proofs.Common.{rules, ◌≡◌, true, false, ap, ◌∙◌}
+use Rattle.std.specs.Prelude.{map}
 use Rattle.ct_core.specs.CompleteList.{has_ended}
 use Rattle.ct_pool.specs.declared.workers.Worker.{Worker}
 use Rattle.ct_pool.specs.Passes.{PassView}
-use Rattle.ct_pool.specs.Found.{IsFound, AreFound, key_of, key_found}
+use Rattle.ct_pool.specs.Found.{IsFound, AreFound, key_of}
 use Rattle.ct_pool.proofs.Lists.{all_pop, all_push, all_reverse, each_push, maps_push, map_push}
 use Rattle.ct_pool.proofs.first.results_of.Goals as goal
 

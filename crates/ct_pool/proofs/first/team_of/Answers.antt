@@ -2,7 +2,7 @@ use Rattle.std.proofs.Common.{rules, ◌≡◌, [], None, false}
 use Rattle.ct_core.specs.Machine.{fresh}
 use Rattle.ct_pool.specs.declared.workers.Worker.{Worker}
 use Rattle.ct_pool.specs.Passes.{PassView}
-use Rattle.ct_pool.proofs.Lists.{all_push, all_pop, all_reverse}
+use Rattle.ct_pool.proofs.Lists.{all_push, all_pop}
 use Rattle.ct_pool.proofs.first.team_of.Goals as goal
 
 pub loop-pass-preserved : goal.loop-pass-preserved

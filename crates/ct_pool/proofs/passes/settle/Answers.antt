@@ -1,4 +1,3 @@
-use Rattle.std.proofs.Common.{◌≡◌}
 use Rattle.ct_pool.proofs.Gathered.{gathered, both_told}
 use Rattle.ct_pool.proofs.passes.settle.Goals as goal
 

@@ -1,7 +1,6 @@
-use Rattle.std.proofs.Common.{◌≡◌, ◌∙◌, sym, ap, subst, true, arith}
+use Rattle.std.proofs.Common.{◌∙◌, sym, ap, arith}
 use Rattle.ct_core.specs.Steps.{is_legal}
 use Rattle.ct_core.specs.declared.event.Event.TheVariants.{Look}
-use Rattle.ct_pool.specs.Passes.{PassView, ClaimsView}
 use Rattle.ct_pool.proofs.RuleByWorkers.{looks_as}
 use Rattle.ct_pool.proofs.claims.Claims.look.Goals as goal
 
