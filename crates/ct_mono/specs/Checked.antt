@@ -46,6 +46,17 @@ unfolding verdict
 verdict_ok None x r fits = cc
 verdict_ok (Some k) x r fits = cc
 
+-- what was not refused is a value, and what was refused is its kind
+pub verdict_fits : {A : Type 0} (o : Option Kind) (x r : A) → o ≡ None → x ≡ r → verdict o x ≡ Ok r
+unfolding verdict
+verdict_fits None x r fits same = cc
+verdict_fits (Some k) x r fits same = cc
+
+pub verdict_refuses : {A : Type 0} (o : Option Kind) (x : A) (k : Kind) → o ≡ Some k → verdict o x ≡ Err k
+unfolding verdict
+verdict_refuses None x k refused = cc
+verdict_refuses (Some j) x k refused = cc
+
 -- what the value of two steps says of the first
 pub record BothFit {A B : Type 0} (c : Checked A) (f : A → Checked B) (r : B) : Type 0 where
   pub value : A
