@@ -1,0 +1,12 @@
+pub mod TermLists
+pub mod OverflowRules
+pub mod Merging
+pub mod Termwise
+pub mod Negatives
+pub mod Products
+pub mod Values
+pub mod Derivatives
+pub mod BinomialPowers
+pub mod ShiftValues
+pub mod Shifts
+pub mod PowerTables

@@ -1,0 +1,7 @@
+use Rattle.std.proofs.Common.{◌≡◌, ◌-◌, ◌^◌, min, take}
+use Rattle.ct_poly.specs.Terms.{derivative_size}
+use Rattle.ct_poly.proofs.derivative.derivative_size_of_terms.Given as goal
+
+-- the sum over the terms so far
+abbrev pub invariant-loop-t : goal.invariant-loop-t
+invariant-loop-t l = l.sum ≡ min (derivative_size l.i (take l.t-index l.ts)) (2 ^ 128 - 1)

@@ -1,0 +1,3 @@
+pub mod Terms
+pub mod Measures
+pub mod Powers

@@ -1,0 +1,21 @@
+//! Polynomials in six names with whole coefficients, exact and with exact overflow.
+//!
+//! A `Poly` is seen as a finite map from monomials to nonzero whole numbers. It has at most `MOST_TERMS`
+//! terms, and its norm, the sum of the absolute values of its coefficients, is at most `LARGEST_NORM`.
+//!
+//! A call that can overflow answers the checked computation of `specs/Measures.antt`: the exact value, or
+//! the kind of the first limit that the measures of its operands could pass. The exact values are those
+//! of ct_algebra. Names are given as numbers below six.
+#![tactic(auto)]
+
+mod derivative;
+mod measures;
+mod poly;
+mod product;
+mod shift;
+mod sum;
+mod term;
+
+pub use ct_mono::{Fault, Kind, LARGEST_DEGREE, LARGEST_NORM, MOST_TERMS, Monomial, NoMemory};
+pub use poly::Poly;
+pub use term::Term;
