@@ -10,3 +10,4 @@ pub mod BinomialPowers
 pub mod ShiftValues
 pub mod Shifts
 pub mod PowerTables
+pub mod Within

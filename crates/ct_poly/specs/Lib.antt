@@ -1,3 +1,4 @@
 pub mod Terms
 pub mod Measures
 pub mod Powers
+pub mod MeasureLaws

@@ -9,6 +9,7 @@
 #![tactic(auto)]
 
 mod derivative;
+pub mod laws;
 mod measures;
 mod poly;
 mod product;
