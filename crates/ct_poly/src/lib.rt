@@ -16,6 +16,8 @@ mod product;
 mod shift;
 mod sum;
 mod term;
+#[cfg(test)]
+mod tests;
 
 pub use ct_mono::{Fault, Kind, LARGEST_DEGREE, LARGEST_NORM, MOST_TERMS, Monomial, NoMemory};
 pub use poly::Poly;
