@@ -1,12 +1,12 @@
 // Polynomials: lists of terms with falling monomials and no zero coefficient.
-ghost use Rattle.std.specs.Prelude.{◌≡◌, ◌+◌, ◌*◌, ◌<◌, ◌≤◌, ◌≤ℤ◌, ◌↔◌, IfOk, IsTrue, false, pos, negsuc, unsigned_abs};
+ghost use Rattle.std.specs.Prelude.{◌≡◌, ◌+◌, ◌*◌, ◌<◌, ◌≤◌, ◌≤ℤ◌, ◌↔◌, IfOk, IsTrue, false, pos, negsuc, unsigned_abs, length};
 ghost use Rattle.ct_algebra.specs.FreeOf.{IsFreeOf};
 ghost use Rattle.ct_algebra.specs.Names.{name_with};
-ghost use Rattle.ct_algebra.specs.Polynomial.{polys, norm};
+ghost use Rattle.ct_algebra.specs.Polynomial.{polys, count, norm};
 ghost use Rattle.ct_algebra.specs.Substitution.{term, number, name};
 ghost use Rattle.ct_mono.specs.Checked.{Answers};
-ghost use Rattle.ct_mono.specs.Limits.{largest_norm};
-ghost use Rattle.ct_poly.specs.Terms.{entries};
+ghost use Rattle.ct_mono.specs.Limits.{most_terms, largest_norm};
+ghost use Rattle.ct_poly.specs.Terms.{entries, IsFalling, size_of};
 ghost use Rattle.ct_poly.specs.Measures.{sum_overflow, product_overflow, checked_plus, checked_minus, checked_times, checked_shifted, checked_derived};
 
 use crate::derivative::{derivative_of_terms, derivative_size_of_terms};
@@ -82,6 +82,24 @@ impl Poly {
         }
         let terms = list_of_term(alloc, mono, coef)?;
         Ok(Poly { terms })
+    }
+
+    /// The polynomial of terms whose monomials fall.
+    pub fn of_terms(terms: Vec<Term>) -> Poly
+        requires falling { IsFalling terms.items }
+        requires few { length terms.items ≤ most_terms }
+        requires small { size_of terms.items ≤ largest_norm }
+        ensures { result.terms ≡ entries terms.items }
+    {
+        Poly { terms }
+    }
+
+    /// Each polynomial is within the limits.
+    pub fn within_limits(&self)
+        ensures few { count self.now ≤ most_terms }
+        ensures small { norm self.now ≤ largest_norm }
+    {
+        let _ = &self.terms;
     }
 
     /// The terms, monomials falling.
