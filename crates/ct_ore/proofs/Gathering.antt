@@ -1,0 +1,236 @@
+-- A list in written form falls into runs of equal symbols, and each run is a term of the operator: the steps that gather it.
+-- Main lemmas `gathering_step` and `gathering_end`. Two ways of cutting a list where the symbols change are the same way.
+use Rattle.std.proofs.Common.{◌≡◌, refl, suc, ◌+◌, ◌≤◌, nat_abs, ℤ, List, [], ◌∷◌, ◌++◌, length, get_or, drop, sym, ◌∙◌, ap, ap₂, subst, subst₂, arith, length-append, append_assoc, append-nil, T, cond, true, false}
+use Rattle.std.specs.Prelude.{◌==◌, not}
+use Rattle.std.specs.Ordering.{ordering_index}
+use Rattle.std.proofs.Common.{Ordering, Less, Equal, Greater}
+use Rattle.std.proofs.lemmas.List.Sums.{sum_by-cons, sum_by-append}
+use Rattle.ct_algebra.specs.Terms.{AllBelow, IsCanonical}
+use Rattle.ct_algebra.specs.Laws.Terms.{less_is}
+use Rattle.ct_algebra.specs.Monomial.{Mono, monomials, mono_cmp, mono_same}
+use Rattle.ct_algebra.specs.Polynomial.{Polynomial, polys}
+use Rattle.ct_algebra.specs.Sums.{has_none, same_terms}
+use Rattle.ct_algebra.specs.WholeNumbers.{int_group}
+use Rattle.ct_algebra.proofs.Merging.{back_canonical}
+use Rattle.ct_mono.specs.Limits.{most_terms, largest_norm}
+use Rattle.ct_poly.specs.declared.term.Term.{Term}
+use Rattle.ct_poly.specs.Terms as poly
+use Rattle.ct_poly.specs.Terms.{entries, IsFalling}
+use Rattle.ct_ore.specs.declared.coefficient_term.CoefficientTerm.{CoefficientTerm}
+use Rattle.ct_ore.specs.declared.op.OpTerm.{OpTerm}
+use Rattle.ct_ore.specs.Terms.{op_entries}
+use Rattle.ct_ore.specs.CoefficientTerms.{sum_of_parts, size_of}
+use Rattle.ct_ore.specs.Measures.{row_of, all_terms, coefficient_terms}
+use Rattle.ct_ore.specs.Lists.{Fits, StartsOther, IsRun, IsGathering}
+use Rattle.ct_ore.proofs.WrittenForm.{coefficients_of_sum}
+
+-- ---- lists of code and their entries
+
+pub row_of_push :
+    (m : Mono) (run : List Term) (t : Term) →
+    row_of m (entries (run ++ t ∷ [])) ≡ row_of m (entries run) ++ record { symbols = m; names = t.mono; number = t.coef } ∷ []
+row_of_push m [] t = refl
+row_of_push m (r ∷ run) t =
+    ap (λ us. record { symbols = m; names = r.mono; number = r.coef } ∷ us) (row_of_push m run t)
+
+pub op_entries_push : (out : List OpTerm) (t : OpTerm) → op_entries (out ++ t ∷ []) ≡ op_entries out ++ (t.mono, t.coef) ∷ []
+op_entries_push [] t = refl
+op_entries_push (o ∷ out) t = ap (λ es. (o.mono, o.coef) ∷ es) (op_entries_push out t)
+
+length-row_of : (m : Mono) (es : List (Mono × ℤ)) → length (row_of m es) ≡ length es
+length-row_of m [] = refl
+length-row_of m (e ∷ es) = ap (λ n. suc n) (length-row_of m es)
+
+length-entries : (ts : List Term) → length (entries ts) ≡ length ts
+length-entries [] = refl
+length-entries (t ∷ ts) = ap (λ n. suc n) (length-entries ts)
+
+size_of-row : (m : Mono) (run : List Term) → size_of (row_of m (entries run)) ≡ poly.size_of run
+size_of-row m [] = refl
+size_of-row m (t ∷ run) =
+    sum_by-cons (λ (u : CoefficientTerm). nat_abs u.number) (record { symbols = m; names = t.mono; number = t.coef }) (row_of m (entries run))
+    ∙ ap (λ n. nat_abs t.coef + n) (size_of-row m run) ∙ sym (sum_by-cons (λ (u : Term). nat_abs u.coef) t run)
+
+drop-row :
+    (m : Mono) (run : List Term) (rest : List CoefficientTerm) → drop (length run) (row_of m (entries run) ++ rest) ≡ rest
+drop-row m [] rest = refl
+drop-row m (t ∷ run) rest = drop-row m run rest
+
+-- how code tells that two monomials differ
+pub equal_index : (r : Ordering) → not (ordering_index r == 1) ≡ false → r ≡ Equal
+equal_index Less e = cc
+equal_index Equal e = refl
+equal_index Greater e = cc
+
+pub unequal_index : (r : Ordering) → not (ordering_index r == 1) ≡ true → r ≡ Equal → ⊥
+unequal_index Less e same = cc
+unequal_index Equal e same = cc
+unequal_index Greater e same = cc
+
+-- what is not yet passed is what is dropped
+pub run_ends :
+    {m : Mono} {ts : List CoefficientTerm} {run : List Term} (rest : List CoefficientTerm) → ts ≡ row_of m (entries run) ++ rest →
+    StartsOther m rest → IsRun m ts run
+run_ends {m} {ts} {run} rest whole other =
+    let dropped : drop (length run) ts ≡ rest = ap (drop (length run)) whole ∙ drop-row m run rest in
+    record {
+      whole = whole ∙ ap (λ us. row_of m (entries run) ++ us) (sym dropped);
+      other = subst (StartsOther m) (sym dropped) other;
+    }
+
+-- ---- where the symbols change
+
+-- two cuts at the first other symbols agree
+pub record SameCut (ds es : List (Mono × ℤ)) (xs ys : List CoefficientTerm) : Type 0 where
+  pub rows : ds ≡ es
+  pub rests : xs ≡ ys
+
+same_cut :
+    (m : Mono) (ds es : List (Mono × ℤ)) (xs ys : List CoefficientTerm) → row_of m ds ++ xs ≡ row_of m es ++ ys →
+    StartsOther m xs → StartsOther m ys → SameCut ds es xs ys
+same_cut m [] [] xs ys same ox oy = record { rows = refl; rests = same }
+same_cut m [] (e ∷ es) xs ys same ox oy = absurd (starts xs same ox)
+  where
+    starts :
+        (xs : List CoefficientTerm) → xs ≡ record { symbols = m; names = e.0; number = e.1 } ∷ (row_of m es ++ ys) →
+        StartsOther m xs → ⊥
+    starts [] same other = cc
+    starts (x ∷ xs) same other = other (cc)
+same_cut m (d ∷ ds) [] xs ys same ox oy = absurd (starts ys (sym same) oy)
+  where
+    starts :
+        (ys : List CoefficientTerm) → ys ≡ record { symbols = m; names = d.0; number = d.1 } ∷ (row_of m ds ++ xs) →
+        StartsOther m ys → ⊥
+    starts [] same other = cc
+    starts (y ∷ ys) same other = other (cc)
+same_cut m (d ∷ ds) (e ∷ es) xs ys same ox oy =
+    let t : CoefficientTerm = record { symbols = m; names = d.0; number = d.1 } in
+    let names : d.0 ≡ e.0 = ap (λ us. (get_or us 0 t).names) same in
+    let numbers : d.1 ≡ e.1 = ap (λ us. (get_or us 0 t).number) same in
+    let first : d ≡ e = λ i. (names i, numbers i) in
+    let tails : row_of m ds ++ xs ≡ row_of m es ++ ys = ap (drop 1) same in
+    let more = same_cut m ds es xs ys tails ox oy in
+    record { rows = ap₂ (λ u us. u ∷ us) first more.rows; rests = more.rests }
+
+-- what follows a term of an operator begins with lower symbols
+later_other :
+    (m : Mono) (es : List (Mono × Polynomial)) → AllBelow monomials polys.group m es →
+    IsCanonical monomials polys.group es → StartsOther m (all_terms es)
+later_other m [] below h = tt
+later_other m (e ∷ es) below h = by e.1.terms h.0
+  where
+    by :
+        (ds : List (Mono × ℤ)) → T (cond (has_none monomials int_group ds) false true) →
+        StartsOther m (row_of e.0 ds ++ all_terms es)
+    by [] some = absurd some
+    by (d ∷ ds) some = λ same. cc (less_is monomials polys.group _ below.0, ap (λ k. mono_cmp k m) same ∙ mono_same m)
+
+-- ---- the next term of the operator
+
+pub record NextTerm (later : List (Mono × Polynomial)) (m : Mono) (rest : List CoefficientTerm) (run : List Term) : Type 0 where
+  pub coefficient : Polynomial
+  pub after : List (Mono × Polynomial)
+  pub first : later ≡ (m, coefficient) ∷ after
+  pub run_is : entries run ≡ coefficient.terms
+  pub rest_is : drop (length run) rest ≡ all_terms after
+
+first_symbols :
+    (e : Mono × Polynomial) (us : List CoefficientTerm) (t : CoefficientTerm) (more : List CoefficientTerm) →
+    T (cond (has_none monomials int_group e.1.terms) false true) → t ∷ more ≡ row_of e.0 e.1.terms ++ us →
+    t.symbols ≡ e.0
+first_symbols e us t more some same = by e.1.terms some same
+  where
+    by :
+        (ds : List (Mono × ℤ)) → T (cond (has_none monomials int_group ds) false true) →
+        t ∷ more ≡ row_of e.0 ds ++ us → t.symbols ≡ e.0
+    by [] some same = absurd some
+    by (d ∷ ds) some same = cc
+
+next_of :
+    (later : List (Mono × Polynomial)) (t : CoefficientTerm) (rest more : List CoefficientTerm) (run : List Term) →
+    IsCanonical monomials polys.group later → rest ≡ all_terms later → rest ≡ t ∷ more → IsRun t.symbols rest run →
+    NextTerm later t.symbols rest run
+next_of [] t rest more run h left head cut = absurd (no_head (sym head ∙ left))
+  where
+    no_head : t ∷ more ≡ [] → ⊥
+    no_head e = cc
+next_of (e ∷ es) t rest more run h left head cut =
+    let symbols : t.symbols ≡ e.0 = first_symbols e (all_terms es) t more h.0 (sym head ∙ left) in
+    let same : row_of t.symbols e.1.terms ++ all_terms es ≡ row_of t.symbols (entries run) ++ drop (length run) rest = ap (λ m. row_of m e.1.terms ++ all_terms es) symbols ∙ sym left ∙ cut.whole in
+    let cuts = same_cut t.symbols e.1.terms (entries run) (all_terms es) (drop (length run) rest) same (subst (λ m. StartsOther m (all_terms es)) (sym symbols) (later_other e.0 es h.1 h.2)) cut.other in
+    record {
+      coefficient = e.1;
+      after = es;
+      first = λ i. (sym symbols i, e.1) ∷ es;
+      run_is = sym cuts.rows;
+      rest_is = sym cuts.rests;
+    }
+
+pub next_term :
+    {ts : List CoefficientTerm} {out : List OpTerm} {rest more : List CoefficientTerm} {t : CoefficientTerm} {run : List Term} →
+    (g : IsGathering ts out rest) → rest ≡ t ∷ more → IsRun t.symbols rest run → NextTerm g.later t.symbols rest run
+next_term {ts} {out} {rest} {more} {t} {run} g head cut =
+    next_of g.later t rest more run
+    (back_canonical monomials polys.group (op_entries out) g.later (subst (IsCanonical monomials polys.group) g.whole (sum_of_parts ts).canonical))
+    g.left head cut
+
+-- ---- steps of the loop
+
+pub gathering_start : (ts : List CoefficientTerm) → Fits ts → IsGathering ts [] ts
+unfolding coefficient_terms
+gathering_start ts fits = record {
+  later = (sum_of_parts ts).terms;
+  whole = refl;
+  left = sym (coefficients_of_sum ts fits.written);
+  few = omega arith;
+  small = omega arith;
+}
+
+-- the run is the terms of a polynomial within the limits
+pub run_fits :
+    {ts : List CoefficientTerm} {out : List OpTerm} {rest more : List CoefficientTerm} {t : CoefficientTerm} {run : List Term} →
+    Fits ts → IsGathering ts out rest → rest ≡ t ∷ more → IsRun t.symbols rest run →
+    IsFalling run × (length run ≤ most_terms) × (poly.size_of run ≤ largest_norm)
+run_fits {ts} {out} {rest} {more} {t} {run} fits g head cut =
+    let next = next_term g head cut in (
+      subst (IsCanonical monomials int_group) (sym next.run_is) next.coefficient.canonical,
+      omega (arith, fits.few, g.few, ap length cut.whole, length-append (row_of t.symbols (entries run)) (drop (length run) rest), length-row_of t.symbols (entries run), length-entries run),
+      omega (arith, fits.small, g.small, ap size_of cut.whole, sum_by-append (λ (u : CoefficientTerm). nat_abs u.number) (row_of t.symbols (entries run)) (drop (length run) rest), size_of-row t.symbols run),
+    )
+
+pub gathering_step :
+    {ts : List CoefficientTerm} {out out' : List OpTerm} {rest rest' more : List CoefficientTerm} {t : CoefficientTerm} {run : List Term}
+    (o : OpTerm) → rest ≡ t ∷ more → IsRun t.symbols rest run → o.mono ≡ t.symbols → o.coef.terms ≡ entries run →
+    out' ≡ out ++ o ∷ [] → rest' ≡ drop (length run) rest → IsGathering ts out rest → IsGathering ts out' rest'
+gathering_step {ts} {out} {out'} {rest} {rest'} {more} {t} {run} o head cut symbols coef pushed dropped g =
+    let next = next_term g head cut in
+    let same : o.coef ≡ next.coefficient = same_terms monomials int_group o.coef next.coefficient (coef ∙ next.run_is) in
+    let term : ◌≡◌ {A = Mono × Polynomial} (o.mono, o.coef) (t.symbols, next.coefficient) = λ i. (symbols i, same i) in
+    subst₂ (IsGathering ts) (sym pushed) (sym dropped) (record {
+      later = next.after;
+      whole = g.whole ∙ ap (λ es. op_entries out ++ es) (next.first ∙ ap (λ e. e ∷ next.after) (sym term))
+          ∙ sym (append_assoc (op_entries out) ((o.mono, o.coef) ∷ []) next.after) ∙ ap (λ es. es ++ next.after) (sym (op_entries_push out o));
+      left = next.rest_is;
+      few = omega (arith, g.few, ap length cut.whole, length-append (row_of t.symbols (entries run)) (drop (length run) rest));
+      small = omega (arith, g.small, ap size_of cut.whole, sum_by-append (λ (u : CoefficientTerm). nat_abs u.number) (row_of t.symbols (entries run)) (drop (length run) rest));
+    })
+
+pub gathering_end :
+    {ts : List CoefficientTerm} {out : List OpTerm} {rest : List CoefficientTerm} → length rest ≡ 0 →
+    IsGathering ts out rest → op_entries out ≡ (sum_of_parts ts).terms
+gathering_end {ts} {out} {rest} none g =
+    sym (g.whole ∙ ap (λ es. op_entries out ++ es) (by g.later canonical (sym (ap length g.left) ∙ none)) ∙ append-nil (op_entries out))
+  where
+    canonical : IsCanonical monomials polys.group g.later
+    canonical =
+        back_canonical monomials polys.group (op_entries out) g.later (subst (IsCanonical monomials polys.group) g.whole (sum_of_parts ts).canonical)
+
+    row_some :
+        (m : Mono) (ds : List (Mono × ℤ)) (us : List CoefficientTerm) → T (cond (has_none monomials int_group ds) false true) →
+        length (row_of m ds ++ us) ≡ 0 → ⊥
+    row_some m [] us some e = absurd some
+    row_some m (d ∷ ds) us some e = omega arith
+
+    by : (es : List (Mono × Polynomial)) → IsCanonical monomials polys.group es → length (all_terms es) ≡ 0 → es ≡ []
+    by [] h none = refl
+    by (e ∷ es) h none = absurd (row_some e.0 e.1.terms (all_terms es) h.0 none)

@@ -1,0 +1,124 @@
+-- The terms that a product makes are the product: main lemmas `product_terms-value`, and `product-value` of two operators.
+-- Name after name, symbols go before a list; a polynomial before it is a multiple. An operator is known from its single terms.
+use Rattle.std.proofs.Common.{◌≡◌, ℤ, ◌*ℤ◌, List, [], ◌∷◌, sym, ◌∙◌, ap, ap₂}
+use Rattle.ct_algebra.specs.Group.{Group, IsHom, hom_zero}
+use Rattle.ct_algebra.specs.Terms.{total}
+use Rattle.ct_algebra.specs.Laws.Terms.{IsAdditive}
+use Rattle.ct_algebra.specs.Sums.{lift, lift-⊕, lift-single, same_hom}
+use Rattle.ct_algebra.specs.Monomial.{Mono, monomials, exp, ◌·◌}
+use Rattle.ct_algebra.specs.WholeNumbers.{int_group}
+use Rattle.ct_algebra.specs.Names.{Name, x0, x1, x2, x3, x4, x5, power, times_over}
+use Rattle.ct_algebra.specs.Polynomial.{Polynomial, poly_set, times_is}
+use Rattle.ct_algebra.specs.Substitution.{P, term, term_is, term-sum, term-*}
+use Rattle.ct_algebra.specs.Actions.{Action}
+use Rattle.ct_algebra.specs.Operators.{Operator, operator_group, operator_set, term_of, symbol_before, multiple, product_of, product_of-sum_left}
+use Rattle.ct_algebra.proofs.OperatorTerms.{sums_are, term_of-single}
+use Rattle.ct_algebra.proofs.ProductRule.{operator_module, multiple-term_of, symbols_commute, product_of-term_of}
+use Rattle.ct_ore.specs.declared.coefficient_term.CoefficientTerm.{CoefficientTerm}
+use Rattle.ct_ore.specs.CoefficientTerms.{sum_of_parts}
+use Rattle.ct_ore.specs.Measures.{coefficient_terms}
+use Rattle.ct_ore.specs.PairTerms.{expanded, multiplied, multiplied_by, product_terms}
+use Rattle.ct_ore.proofs.ChangedExponents.{power-is}
+use Rattle.ct_ore.proofs.CoefficientSums.{sum_of_parts-append, sum_of_coefficients}
+use Rattle.ct_ore.proofs.PairExpansion.{raised-value}
+use Rattle.ct_ore.proofs.PartSums.{value_of, sum_of_parts-none, sum_of_parts-cons}
+
+abbrev G : Group Operator
+G = operator_group
+
+module _ (a : Name → Action) where
+  -- ---- symbols
+
+  pub expanded-value :
+      (m : Mono) (ts : List CoefficientTerm) → sum_of_parts (expanded a m ts) ≡ power (symbol_before a) m (sum_of_parts ts)
+  unfolding expanded
+  expanded-value m ts =
+      raised-value a x0 (exp m 0) _
+      ∙ ap (times_over (exp m 0) (symbol_before a x0)) (raised-value a x1 (exp m 1) _
+      ∙ ap (times_over (exp m 1) (symbol_before a x1)) (raised-value a x2 (exp m 2) _
+      ∙ ap (times_over (exp m 2) (symbol_before a x2)) (raised-value a x3 (exp m 3) _
+      ∙ ap (times_over (exp m 3) (symbol_before a x3)) (raised-value a x4 (exp m 4) _
+      ∙ ap (times_over (exp m 4) (symbol_before a x4)) (raised-value a x5 (exp m 5) ts)))))
+      ∙ sym (power-is (symbol_before a) (symbols_commute a) m (sum_of_parts ts))
+
+  -- ---- polynomials
+
+  multiple_hom : (c : Polynomial) → IsHom G G (multiple a c)
+  unfolding multiple
+  multiple_hom c = record { sums = (operator_module a).scale_sum c }
+
+  multiples_hom : (q : Operator) → IsHom P G (λ c. multiple a c q)
+  unfolding multiple
+  multiples_hom q = record { sums = λ b c. (operator_module a).scale_value b c q }
+
+  multiplied-term :
+      (n : Mono) (x : ℤ) (t : CoefficientTerm) →
+      value_of (record { symbols = t.symbols; names = n · t.names; number = x *ℤ t.number }) ≡ multiple a (term n x) (value_of t)
+  multiplied-term n x t =
+      sym (multiple-term_of a (term n x) t.symbols (term t.names t.number)
+      ∙ ap (term_of t.symbols) (times_is _ _ ∙ term-* n t.names x t.number))
+
+  multiplied-value :
+      (n : Mono) (x : ℤ) (ts : List CoefficientTerm) → sum_of_parts (multiplied n x ts) ≡ multiple a (term n x) (sum_of_parts ts)
+  multiplied-value n x [] =
+      sum_of_parts-none
+      ∙ sym (ap (multiple a (term n x)) sum_of_parts-none ∙ hom_zero {G = G} {H = G} {φ = multiple a (term n x)} (multiple_hom (term n x)))
+  multiplied-value n x (t ∷ ts) =
+      sum_of_parts-cons _ (multiplied n x ts) ∙ ap₂ G.◌+◌ (multiplied-term n x t) (multiplied-value n x ts)
+      ∙ sym (ap (multiple a (term n x)) (sum_of_parts-cons t ts) ∙ (multiple_hom (term n x)).sums _ _)
+
+  total-multiplied :
+      (us : List (Mono × ℤ)) (ts : List CoefficientTerm) →
+      sum_of_parts (multiplied_by us ts) ≡ total G (λ n x. multiple a (term n x) (sum_of_parts ts)) us
+  total-multiplied [] ts = sum_of_parts-none
+  total-multiplied (u ∷ us) ts =
+      sum_of_parts-append (multiplied u.0 u.1 ts) (multiplied_by us ts) ∙ sums_are _ _
+      ∙ ap₂ G.◌+◌ (multiplied-value u.0 u.1 ts) (total-multiplied us ts)
+
+  number_additive : (q : Operator) → IsAdditive int_group G (λ n x. multiple a (term n x) q)
+  number_additive q = record { sums = λ n x y. ap (λ c. multiple a c q) (term-sum n x y) ∙ (multiples_hom q).sums _ _ }
+
+  total-multiple : (c : Polynomial) (q : Operator) → total G (λ n x. multiple a (term n x) q) c.terms ≡ multiple a c q
+  unfolding lift
+  total-multiple c q =
+      same_hom monomials int_group poly_set G (lift monomials int_group G (λ n x. multiple a (term n x) q)) (λ c. multiple a c q)
+      (record { sums = lift-⊕ monomials int_group G _ (number_additive q) }) (multiples_hom q)
+      (λ n x. lift-single monomials int_group G _ (number_additive q) n x ∙ ap (λ c. multiple a c q) (term_is n x)) c
+
+  pub multiplied_by-value :
+      (c : Polynomial) (ts : List CoefficientTerm) → sum_of_parts (multiplied_by c.terms ts) ≡ multiple a c (sum_of_parts ts)
+  multiplied_by-value c ts = total-multiplied c.terms ts ∙ total-multiple c (sum_of_parts ts)
+
+  -- ---- operators
+
+  abbrev term_before : Operator → Mono → Polynomial → Operator
+  term_before q m c = multiple a c (power (symbol_before a) m q)
+
+  total-product :
+      (es : List (Mono × Polynomial)) (ts : List CoefficientTerm) →
+      sum_of_parts (product_terms a es ts) ≡ total G (term_before (sum_of_parts ts)) es
+  total-product [] ts = sum_of_parts-none
+  total-product (e ∷ es) ts =
+      sum_of_parts-append (multiplied_by e.1.terms (expanded a e.0 ts)) (product_terms a es ts) ∙ sums_are _ _
+      ∙ ap₂ G.◌+◌ (multiplied_by-value e.1 (expanded a e.0 ts) ∙ ap (multiple a e.1) (expanded-value e.0 ts)) (total-product es ts)
+
+  term_additive : (q : Operator) → IsAdditive P G (term_before q)
+  term_additive q = record { sums = λ m b c. (multiples_hom (power (symbol_before a) m q)).sums b c }
+
+  products_hom : (q : Operator) → IsHom G G (λ p. product_of a p q)
+  products_hom q = record { sums = λ p r. ap (λ w. product_of a w q) (sym (sums_are p r)) ∙ product_of-sum_left a p r q ∙ sums_are _ _ }
+
+  total-products : (p q : Operator) → total G (term_before q) p.terms ≡ product_of a p q
+  unfolding lift
+  total-products p q =
+      same_hom monomials P operator_set G (lift monomials P G (term_before q)) (λ p. product_of a p q)
+      (record { sums = lift-⊕ monomials P G _ (term_additive q) }) (products_hom q)
+      (λ m c. lift-single monomials P G _ (term_additive q) m c ∙ sym (product_of-term_of a m c q)
+      ∙ ap (λ w. product_of a w q) (term_of-single m c)) p
+
+  pub product_terms-value :
+      (p : Operator) (ts : List CoefficientTerm) → sum_of_parts (product_terms a p.terms ts) ≡ product_of a p (sum_of_parts ts)
+  product_terms-value p ts = total-product p.terms ts ∙ total-products p (sum_of_parts ts)
+
+  pub product-value : (p q : Operator) → sum_of_parts (product_terms a p.terms (coefficient_terms q)) ≡ product_of a p q
+  product-value p q = product_terms-value p (coefficient_terms q) ∙ ap (product_of a p) (sum_of_coefficients q)

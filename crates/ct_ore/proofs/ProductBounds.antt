@@ -1,0 +1,265 @@
+-- Totals and sizes on the way of a product: each step stays within the measures of the whole.
+-- Main lemmas `can_raise_rest`, `way_fits`, `can_expand`, `can_scale`, `can_multiply_rest`. Cited by the loops that make the terms.
+use Rattle.std.proofs.Common.{◌≡◌, refl, ℕ, zero, suc, ◌+◌, ◌-◌, ◌*◌, ◌<◌, ◌≤◌, ℤ, pos, ◌*ℤ◌, nat_abs, List, [], ◌∷◌, ◌++◌, length, sum_by, sym, ◌∙◌, ap, subst, arith, eq-or-lt_of_le, ◌⊎◌, inl, inr, lit<}
+use Rattle.std.proofs.lemmas.List.Sums.{sum_by-cons, sum_by-append, sum_by_push}
+use Rattle.std.proofs.lemmas.Int.{unsigned_abs-mul}
+use Rattle.ct_algebra.specs.Monomial.{Mono, exp, total}
+use Rattle.ct_algebra.specs.Names.{Name, x0, x1, x2, x3, x4, x5}
+use Rattle.ct_algebra.specs.Terms.{EachTerm}
+use Rattle.ct_algebra.specs.Actions.{Action, Shift, Derive, Still}
+use Rattle.ct_algebra.specs.Polynomial.{Polynomial, degree, degree_greatest, norm, norm_of}
+use Rattle.ct_mono.specs.Limits.{largest_degree, largest_norm}
+use Rattle.ct_mono.proofs.ExponentLaws.{total-with_exponent}
+use Rattle.ct_ore.specs.declared.coefficient_term.CoefficientTerm.{CoefficientTerm}
+use Rattle.ct_ore.specs.CoefficientTerms.{size_of}
+use Rattle.ct_ore.specs.PairTerms.{listed, how_many, ways, symbols_left, lowered_term, raised_term, raised, expanded, multiplied_by, product_terms}
+use Rattle.std.proofs.Common.{Option, Some, None}
+use Rattle.std.specs.Option.{unwrap_or}
+use Rattle.ct_ore.specs.Bounds.{IsCapped, Within, EachWithin, CanRaise, CanExpand, CanScale, EachScales, CanMultiply}
+use Rattle.ct_ore.proofs.PairMeasureLaws.{six_total}
+use Rattle.ct_ore.proofs.ProductMeasures.{EachIsWithin, each_is_smaller, size_of-multiplied_by}
+use Rattle.ct_ore.proofs.WayLaws.{product_positive}
+use Rattle.ct_ore.proofs.WayPositive.{ways-positive}
+
+abbrev size : CoefficientTerm → ℕ
+size t = nat_abs t.number
+
+-- ---- lists of terms within bounds
+
+within-append : (b d : ℕ) (xs ys : List CoefficientTerm) → EachWithin b d xs → EachWithin b d ys → EachWithin b d (xs ++ ys)
+within-append b d [] ys h k = k
+within-append b d (x ∷ xs) ys h k = (h.0, within-append b d xs ys h.1 k)
+
+pub within-weaker : (b d b' d' : ℕ) → b ≤ b' → d ≤ d' → (xs : List CoefficientTerm) → EachWithin b d xs → EachWithin b' d' xs
+within-weaker b d b' d' p q [] h = tt
+within-weaker b d b' d' p q (x ∷ xs) h =
+    (record { symbols = omega (arith, h.0.symbols); names = omega (arith, h.0.names); some = h.0.some }, within-weaker b d b' d' p q xs h.1)
+
+within-listed :
+    (b d n : ℕ) (f : ℕ → CoefficientTerm) → ((j : ℕ) → j < n → Within b d (f j)) → EachWithin b d (listed n f)
+within-listed b d zero f h = tt
+within-listed b d (suc n) f h = within-append b d (listed n f) (f n ∷ []) (within-listed b d n f (λ j l. h j (omega arith))) (h n (omega arith), tt)
+
+left-le : (t : Action) (k j : ℕ) → symbols_left t k j ≤ k
+left-le Shift k j = omega arith
+left-le Derive k j = omega arith
+left-le Still k j = omega arith
+
+within-lowered :
+    (b d : ℕ) (t : Action) (i k : ℕ) (u : CoefficientTerm) (j : ℕ) → i < 6 → j < how_many t k (exp u.names i) → Within b d u →
+    Within (b + k) d (lowered_term t i k u j)
+within-lowered b d t i k u j known below h = record {
+  symbols = omega (arith, h.symbols, left-le t k j, total-with_exponent i (exp u.symbols i + symbols_left t k j) u.symbols known);
+  names = omega (arith, h.names, total-with_exponent i (exp u.names i - j) u.names known);
+  some = subst (λ n. 0 < n) (sym (unsigned_abs-mul u.number (pos (ways t k (exp u.names i) j)))) (product_positive (nat_abs u.number) (ways t k (exp u.names i) j) h.some (ways-positive t k (exp u.names i) j below));
+}
+
+pub within-raised :
+    (b d : ℕ) (t : Action) (i k : ℕ) (ts : List CoefficientTerm) → i < 6 → EachWithin b d ts → EachWithin (b + k) d (raised t i k ts)
+within-raised b d t i k [] known h = tt
+within-raised b d t i k (u ∷ ts) known h =
+    within-append (b + k) d (raised_term t i k u) (raised t i k ts)
+    (within-listed (b + k) d (how_many t k (exp u.names i)) (lowered_term t i k u) (λ j l. within-lowered b d t i k u j known l h.0))
+    (within-raised b d t i k ts known h.1)
+
+-- ---- raising one term after the other
+
+size-raised-cons :
+    (t : Action) (i k : ℕ) (u : CoefficientTerm) (ts : List CoefficientTerm) →
+    size_of (raised t i k (u ∷ ts)) ≡ size_of (raised_term t i k u) + size_of (raised t i k ts)
+size-raised-cons t i k u ts = sum_by-append size (raised_term t i k u) (raised t i k ts)
+
+pub can_raise_first :
+    {t : Action} {i k : ℕ} {ts : List CoefficientTerm} (u : CoefficientTerm) (more : List CoefficientTerm) → ts ≡ u ∷ more →
+    CanRaise t i k ts → CanRaise t i k (u ∷ [])
+can_raise_first {t} {i} {k} u more same can = record {
+  order = can.order;
+  room = can.room;
+  each = ((subst (EachWithin can.order largest_degree) same can.each).0, tt);
+  small = omega (arith, can.small, ap (λ us. size_of (raised t i k us)) same, size-raised-cons t i k u more, size-raised-cons t i k u []);
+}
+
+pub can_raise_rest :
+    {t : Action} {i k : ℕ} {ts : List CoefficientTerm} (u : CoefficientTerm) (more : List CoefficientTerm) → ts ≡ u ∷ more →
+    CanRaise t i k ts → CanRaise t i k more
+can_raise_rest {t} {i} {k} u more same can = record {
+  order = can.order;
+  room = can.room;
+  each = (subst (EachWithin can.order largest_degree) same can.each).1;
+  small = omega (arith, can.small, ap (λ us. size_of (raised t i k us)) same, size-raised-cons t i k u more);
+}
+
+member-le : (n : ℕ) (f : ℕ → CoefficientTerm) (j : ℕ) → j < n → size (f j) ≤ size_of (listed n f)
+member-le zero f j below = absurd (omega arith)
+member-le (suc n) f j below = by (eq-or-lt_of_le (omega arith)) (member-le n f j)
+  where
+    by : (j ≡ n) ⊎ (j < n) → (j < n → size (f j) ≤ size_of (listed n f)) → size (f j) ≤ size_of (listed n f ++ f n ∷ [])
+    by (inl same) before = omega (arith, ap (λ m. size (f m)) same, sum_by_push size (listed n f) (f n))
+    by (inr less) before = omega (arith, before less, sum_by_push size (listed n f) (f n))
+
+-- the number before a term fits, and so does the term's own
+pub way_fits :
+    (t : Action) (i k : ℕ) (u : CoefficientTerm) (j : ℕ) → CanRaise t i k (u ∷ []) → j < how_many t k (exp u.names i) →
+    (ways t k (exp u.names i) j ≤ largest_norm) × (nat_abs u.number * ways t k (exp u.names i) j ≤ largest_norm)
+way_fits t i k u j can below =
+    let w = ways t k (exp u.names i) j in
+    let member : nat_abs (u.number *ℤ pos w) ≤ size_of (raised_term t i k u) = member-le (how_many t k (exp u.names i)) (lowered_term t i k u) j below in
+    let both : nat_abs u.number * w ≤ largest_norm = omega (arith, can.small, size-raised-cons t i k u [], member, unsigned_abs-mul u.number (pos w)) in
+    (larger (nat_abs u.number) w can.each.0.some both, both)
+  where
+    larger : (n w : ℕ) → 0 < n → n * w ≤ largest_norm → w ≤ largest_norm
+    larger zero w some h = absurd (omega arith)
+    larger (suc n) w some h = omega arith
+
+-- ---- multiplying
+
+pub can_scale_head :
+    {n : Mono} {x : ℤ} {ts : List CoefficientTerm} (t : CoefficientTerm) (more : List CoefficientTerm) → ts ≡ t ∷ more →
+    CanScale n x ts → (total n + total t.names ≤ largest_degree) × (nat_abs x * nat_abs t.number ≤ largest_norm)
+can_scale_head {n} {x} t more same can = (
+  omega (arith, can.room, (subst (EachWithin can.order can.names) same can.each).0.names),
+  omega (arith, can.small, ap (λ us. nat_abs x * size_of us) same, ap (λ s. nat_abs x * s) (sum_by-cons size t more)),
+)
+
+pub can_scale_rest :
+    {n : Mono} {x : ℤ} {ts : List CoefficientTerm} (t : CoefficientTerm) (more : List CoefficientTerm) → ts ≡ t ∷ more →
+    CanScale n x ts → CanScale n x more
+can_scale_rest {n} {x} t more same can = record {
+  names = can.names;
+  order = can.order;
+  room = can.room;
+  each = (subst (EachWithin can.order can.names) same can.each).1;
+  small = omega (arith, can.small, ap (λ us. nat_abs x * size_of us) same, ap (λ s. nat_abs x * s) (sum_by-cons size t more));
+}
+
+-- ---- a product of symbols, name after name
+
+module _ (a : Name → Action) (m : Mono) (ts : List CoefficientTerm) where
+  abbrev pub list5 : List CoefficientTerm
+  list5 = raised (a x5) 5 (exp m 5) ts
+
+  abbrev pub list4 : List CoefficientTerm
+  list4 = raised (a x4) 4 (exp m 4) list5
+
+  abbrev pub list3 : List CoefficientTerm
+  list3 = raised (a x3) 3 (exp m 3) list4
+
+  abbrev pub list2 : List CoefficientTerm
+  list2 = raised (a x2) 2 (exp m 2) list3
+
+  abbrev pub list1 : List CoefficientTerm
+  list1 = raised (a x1) 1 (exp m 1) list2
+
+  module _ (b d : ℕ) (h : EachWithin b d ts) where
+    within5 : EachWithin (b + exp m 5) d list5
+    within5 = within-raised b d (a x5) 5 (exp m 5) ts (lit< tt) h
+
+    within4 : EachWithin (b + exp m 5 + exp m 4) d list4
+    within4 = within-raised (b + exp m 5) d (a x4) 4 (exp m 4) list5 (lit< tt) within5
+
+    within3 : EachWithin (b + exp m 5 + exp m 4 + exp m 3) d list3
+    within3 = within-raised (b + exp m 5 + exp m 4) d (a x3) 3 (exp m 3) list4 (lit< tt) within4
+
+    within2 : EachWithin (b + exp m 5 + exp m 4 + exp m 3 + exp m 2) d list2
+    within2 = within-raised (b + exp m 5 + exp m 4 + exp m 3) d (a x2) 2 (exp m 2) list3 (lit< tt) within3
+
+    within1 : EachWithin (b + exp m 5 + exp m 4 + exp m 3 + exp m 2 + exp m 1) d list1
+    within1 = within-raised (b + exp m 5 + exp m 4 + exp m 3 + exp m 2) d (a x1) 1 (exp m 1) list2 (lit< tt) within2
+
+    pub within-expanded : EachWithin (b + total m) d (expanded a m ts)
+    unfolding expanded
+    within-expanded =
+        within-weaker (b + exp m 5 + exp m 4 + exp m 3 + exp m 2 + exp m 1 + exp m 0) d (b + total m) d (omega (arith, six_total m)) (omega arith) _ (within-raised (b + exp m 5 + exp m 4 + exp m 3 + exp m 2 + exp m 1) d (a x0) 0 (exp m 0) list1 (lit< tt) within1)
+
+  module _ (can : CanExpand a m ts) where
+    abbrev b : ℕ
+    b = can.order
+
+    abbrev smaller : EachIsWithin a size_of m ts
+    smaller = each_is_smaller a m ts
+
+    pub can5 : CanRaise (a x5) 5 (exp m 5) ts
+    can5 = record { order = b; room = omega (arith, can.room, six_total m); each = can.each; small = omega (arith, can.small, smaller.after5) }
+
+    pub can4 : CanRaise (a x4) 4 (exp m 4) list5
+    can4 = record { order = b + exp m 5; room = omega (arith, can.room, six_total m); each = within5 b largest_degree can.each; small = omega (arith, can.small, smaller.after4) }
+
+    pub can3 : CanRaise (a x3) 3 (exp m 3) list4
+    can3 = record { order = b + exp m 5 + exp m 4; room = omega (arith, can.room, six_total m); each = within4 b largest_degree can.each; small = omega (arith, can.small, smaller.after3) }
+
+    pub can2 : CanRaise (a x2) 2 (exp m 2) list3
+    can2 = record { order = b + exp m 5 + exp m 4 + exp m 3; room = omega (arith, can.room, six_total m); each = within3 b largest_degree can.each; small = omega (arith, can.small, smaller.after2) }
+
+    pub can1 : CanRaise (a x1) 1 (exp m 1) list2
+    can1 = record { order = b + exp m 5 + exp m 4 + exp m 3 + exp m 2; room = omega (arith, can.room, six_total m); each = within2 b largest_degree can.each; small = omega (arith, can.small, smaller.after1) }
+
+    pub can0 : CanRaise (a x0) 0 (exp m 0) list1
+    unfolding expanded
+    can0 = record { order = b + exp m 5 + exp m 4 + exp m 3 + exp m 2 + exp m 1; room = omega (arith, can.room, six_total m); each = within1 b largest_degree can.each; small = can.small }
+
+-- ---- one term of the left factor after the other
+
+scaled-norm : (us : List (Mono × ℤ)) (s : ℕ) → sum_by (λ u. nat_abs u.1 * s) us ≡ norm_of us * s
+scaled-norm [] s = omega arith
+scaled-norm (u ∷ us) s =
+    sum_by-cons (λ (u : Mono × ℤ). nat_abs u.1 * s) u us
+    ∙ omega (arith, scaled-norm us s, ap (λ n. n * s) (sum_by-cons (λ (u : Mono × ℤ). nat_abs u.1) u us))
+
+at_least : (n s : ℕ) → 0 < n → s ≤ n * s
+at_least zero s some = absurd (omega arith)
+at_least (suc n) s some = omega arith
+
+module _ (a : Name → Action) (e : Mono × Polynomial) (es : List (Mono × Polynomial)) (ts : List CoefficientTerm) (can : CanMultiply a (e ∷ es) ts) where
+  size-parts : size_of (multiplied_by e.1.terms (expanded a e.0 ts)) + size_of (product_terms a es ts) ≤ largest_norm
+  size-parts = omega (arith, can.small, sum_by-append size (multiplied_by e.1.terms (expanded a e.0 ts)) (product_terms a es ts))
+
+  size-scaled : norm_of e.1.terms * size_of (expanded a e.0 ts) ≤ largest_norm
+  size-scaled = omega (arith, size-parts, size_of-multiplied_by e.1.terms (expanded a e.0 ts), scaled-norm e.1.terms (size_of (expanded a e.0 ts)))
+
+  pub can_expand : CanExpand a e.0 ts
+  unfolding norm
+  can_expand = record {
+    order = can.order;
+    room = omega (arith, can.rooms.0.symbols);
+    each = within-weaker can.order can.names can.order largest_degree (omega arith) can.within ts can.each;
+    small = omega (arith, size-scaled, at_least (norm_of e.1.terms) (size_of (expanded a e.0 ts)) can.rooms.0.some);
+  }
+
+  pub can_scale : EachScales e.1.terms (expanded a e.0 ts)
+  can_scale = go e.1.terms (degree_greatest e.1) size-scaled
+    where
+      go :
+          (us : List (Mono × ℤ)) → EachTerm (λ n x. total n ≤ degree e.1) us →
+          norm_of us * size_of (expanded a e.0 ts) ≤ largest_norm → EachScales us (expanded a e.0 ts)
+      go [] low small = tt
+      go (u ∷ us) low small =
+          let parts : norm_of (u ∷ us) * size_of (expanded a e.0 ts) ≡ (nat_abs u.1 + norm_of us) * size_of (expanded a e.0 ts) = ap (λ n. n * size_of (expanded a e.0 ts)) (sum_by-cons (λ (u : Mono × ℤ). nat_abs u.1) u us) in (
+            record {
+              names = can.names;
+              order = can.order + total e.0;
+              room = omega (arith, low.0, can.rooms.0.degrees);
+              each = within-expanded a e.0 ts can.order can.names can.each;
+              small = omega (arith, small, parts);
+            },
+            go us low.1 (omega (arith, small, parts)),
+          )
+
+  pub can_multiply_rest : CanMultiply a es ts
+  can_multiply_rest = record {
+    order = can.order;
+    names = can.names;
+    within = can.within;
+    rooms = can.rooms.1;
+    each = can.each;
+    small = omega (arith, size-parts);
+  }
+
+-- ---- what loops read
+
+pub no_length : (ts : List CoefficientTerm) → length ts ≡ 0 → ts ≡ []
+no_length [] none = refl
+no_length (t ∷ ts) none = absurd (omega arith)
+
+pub capped_value : (v : ℕ) (r : Option ℕ) → IsCapped v r → v ≤ largest_norm → unwrap_or r 0 ≡ v
+capped_value v None over within = absurd (omega arith)
+capped_value v (Some x) is within = is.0

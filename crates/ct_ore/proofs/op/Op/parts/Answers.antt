@@ -1,0 +1,16 @@
+use Rattle.std.proofs.Common.{◌≡◌, ◌∙◌, ap, sym, subst}
+use Rattle.ct_ore.specs.Terms.{op_entries}
+use Rattle.ct_ore.specs.Measures.{all_terms, coefficient_terms}
+use Rattle.ct_ore.specs.Lists.{Fits}
+use Rattle.ct_ore.proofs.WrittenOperators.{terms_of}
+use Rattle.ct_ore.proofs.OperatorMeasures.{fits_of_invariant}
+use Rattle.ct_ore.proofs.op.Op.parts.Goals as goal
+
+pub returns : goal.returns
+unfolding coefficient_terms
+returns c =
+    let list : c.in_ok-parts.parts.items ≡ coefficient_terms c.args.self.now = c.in_ok-parts.ensures ∙ ap all_terms (ap op_entries c.as_slice.ensures.value ∙ terms_of c.self.inside.terms.items c.self.invariant.0 c.self.view_is) in
+    record {
+      list = list;
+      fits = subst Fits (sym list) (fits_of_invariant c.self.inside.terms.items c.self.view_is c.self.invariant.1 c.self.invariant.2);
+    }

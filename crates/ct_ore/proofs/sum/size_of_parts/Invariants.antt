@@ -1,0 +1,6 @@
+use Rattle.std.proofs.Common.{◌≡◌, take}
+use Rattle.ct_ore.specs.CoefficientTerms.{size_of}
+use Rattle.ct_ore.proofs.sum.size_of_parts.Given as goal
+
+abbrev pub invariant-loop-t : goal.invariant-loop-t
+invariant-loop-t l = l.sum ≡ size_of (take l.t-index l.ts)

@@ -1,0 +1,10 @@
+pub mod Naming
+pub mod Terms
+pub mod CoefficientTerms
+pub mod PairWeights
+pub mod Measures
+pub mod Lists
+pub mod PairTerms
+pub mod PairMeasures
+pub mod Bounds
+pub mod Answers

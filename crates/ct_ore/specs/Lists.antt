@@ -1,0 +1,80 @@
+-- What the functions on lists of coefficient terms keep and give.
+--     Fits ts              a list that is the written form of an operator within the limits
+--     IsRun m ts run       run is the terms of ts up to the first whose symbols are not m
+--     IsGathering          which terms of the operator are done, and which are left
+--     IsMerging            what is done and what is left of two lists that are merged
+--     IsSum                a list in written form with the sum of another, no longer and no larger
+use Rattle.std.specs.Prelude.{◌≡◌, ◌≢◌, ◌+◌, ◌≤◌, ltb, neg_ℤ, None, List, [], ◌∷◌, ◌++◌, length, drop}
+use Rattle.std.proofs.Common.{Option}
+use Rattle.ct_algebra.specs.Monomial.{Mono}
+use Rattle.ct_algebra.specs.Terms.{merged}
+use Rattle.ct_algebra.specs.Operators.{Operator}
+use Rattle.ct_algebra.specs.Polynomial.{Polynomial}
+use Rattle.ct_algebra.specs.WholeNumbers.{int_group}
+use Rattle.ct_algebra.proofs.Merging as merging
+use Rattle.ct_mono.specs.Limits.{most_terms, largest_norm}
+use Rattle.ct_mono.specs.declared.fault.Kind.{Kind}
+use Rattle.ct_mono.specs.declared.fault.Kind.TheVariants.{Terms, Number}
+use Rattle.ct_poly.specs.Measures.{broken}
+use Rattle.ct_poly.specs.declared.term.Term.{Term}
+use Rattle.ct_poly.specs.Terms.{entries}
+use Rattle.ct_ore.specs.declared.coefficient_term.CoefficientTerm.{CoefficientTerm}
+use Rattle.ct_ore.specs.declared.op.OpTerm.{OpTerm}
+use Rattle.ct_ore.specs.Terms.{op_entries}
+use Rattle.ct_ore.specs.CoefficientTerms.{by_parts, keyed, sum_of_parts, IsWritten, size_of}
+use Rattle.ct_ore.specs.Measures.{row_of, all_terms, coefficient_terms}
+
+pub record Fits (ts : List CoefficientTerm) : Type 0 where
+  pub written : IsWritten ts
+  pub few : length ts ≤ most_terms
+  pub small : size_of ts ≤ largest_norm
+
+abbrev pub StartsOther : Mono → List CoefficientTerm → Type 0
+StartsOther m [] = Unit {0}
+StartsOther m (t ∷ ts) = t.symbols ≢ m
+
+pub record IsRun (m : Mono) (ts : List CoefficientTerm) (run : List Term) : Type 0 where
+  pub whole : ts ≡ row_of m (entries run) ++ drop (length run) ts
+  pub other : StartsOther m (drop (length run) ts)
+
+-- the terms `later` of the operator are left, and nothing else of the list
+pub record IsGathering (ts : List CoefficientTerm) (out : List OpTerm) (rest : List CoefficientTerm) : Type 0 where
+  pub later : List (Mono × Polynomial)
+  pub whole : (sum_of_parts ts).terms ≡ op_entries out ++ later
+  pub left : rest ≡ all_terms later
+  pub few : length rest ≤ length ts
+  pub small : size_of rest ≤ size_of ts
+
+pub record IsMerging (ps qs done p q : List CoefficientTerm) : Type 0 where
+  pub merging : merging.IsMerging by_parts int_group (keyed ps) (keyed qs) (keyed done) (keyed p) (keyed q)
+  pub sizes : size_of done + size_of p + size_of q ≤ size_of ps + size_of qs
+  pub lengths : length done + length p + length q ≤ length ps + length qs
+
+pub record IsSum (ts us : List CoefficientTerm) : Type 0 where
+  pub written : IsWritten us
+  pub value : sum_of_parts us ≡ sum_of_parts ts
+  pub few : length us ≤ length ts
+  pub small : size_of us ≤ size_of ts
+
+abbrev pub opposite : CoefficientTerm → CoefficientTerm
+opposite t = record { symbols = t.symbols; names = t.names; number = neg_ℤ t.number }
+
+-- the coefficient terms of an operator within the limits
+pub record IsPartsOf (p : Operator) (ts : List CoefficientTerm) : Type 0 where
+  pub list : ts ≡ coefficient_terms p
+  pub fits : Fits ts
+
+pub record CanMerge (ps qs : List CoefficientTerm) : Type 0 where
+  pub first : IsWritten ps
+  pub second : IsWritten qs
+  pub small : size_of ps + size_of qs ≤ largest_norm
+
+pub record IsMerged (ps qs v : List CoefficientTerm) : Type 0 where
+  pub terms : keyed v ≡ merged by_parts int_group (keyed ps) (keyed qs)
+  pub few : length v ≤ length ps + length qs
+  pub small : size_of v ≤ size_of ps + size_of qs
+
+-- the rule of sums, read off the lists
+abbrev pub list_overflow : List CoefficientTerm → List CoefficientTerm → Option Kind
+list_overflow ps qs =
+    broken (ltb most_terms (length ps + length qs)) Terms (broken (ltb largest_norm (size_of ps + size_of qs)) Number None)

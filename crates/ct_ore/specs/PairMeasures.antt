@@ -1,0 +1,28 @@
+-- The measures of all pairs of two lists of coefficient terms: how many terms they make, or how large these are.
+--     name_measure w t k e    of k symbols of a name and its power e
+--     pair_measure a w s t    of a pair;  measure_of_pairs a w ps qs  of all pairs
+-- With w the weight is taken, and else the count.
+use Rattle.std.specs.Prelude.{ℕ, ◌+◌, ◌^◌, ◌<◌, nat_abs, Bool, cond, List, [], ◌∷◌, sum_by}
+use Rattle.ct_algebra.specs.Names.{Name}
+use Rattle.ct_algebra.specs.Actions.{Action, by_action}
+use Rattle.ct_ore.specs.declared.coefficient_term.CoefficientTerm.{CoefficientTerm}
+use Rattle.ct_ore.specs.PairWeights.{derivation_weight}
+use Rattle.ct_ore.specs.PairTerms.{how_many}
+use Rattle.ct_ore.specs.Measures.{count_of_pair, weight_of_pair}
+
+abbrev pub name_measure : Bool → Action → ℕ → ℕ → ℕ
+name_measure w t k e = cond w (by_action t ((1 + k) ^ e) (derivation_weight k e) 1) (how_many t k e)
+
+abbrev pub HasNumbers : List CoefficientTerm → Type 0
+HasNumbers [] = Unit {0}
+HasNumbers (t ∷ ts) = (0 < nat_abs t.number) × HasNumbers ts
+
+module _ (a : Name → Action) (w : Bool) where
+  abbrev pub pair_measure : CoefficientTerm → CoefficientTerm → ℕ
+  pair_measure s t = cond w (weight_of_pair a s t) (count_of_pair a s t)
+
+  abbrev pub measure_of_row : CoefficientTerm → List CoefficientTerm → ℕ
+  measure_of_row s qs = sum_by (λ t. pair_measure s t) qs
+
+  abbrev pub measure_of_pairs : List CoefficientTerm → List CoefficientTerm → ℕ
+  measure_of_pairs ps qs = sum_by (λ s. measure_of_row s qs) ps

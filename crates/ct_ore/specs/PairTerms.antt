@@ -1,0 +1,67 @@
+-- The coefficient terms that products make, before any are gathered.
+--     listed n f             f 0 .. f (n - 1)
+--     how_many t k e         how many terms k symbols of a name with the action t make of its power e
+--     ways t k e j           the number before the one that lowers this power by j
+--     raised t i k ts        the terms that k symbols of the name with the place i make of each term of ts
+--     expanded a m ts        the same for a product of symbols m, name after name, the last name first
+--     multiplied n x ts      the term x of names n times each term of ts
+--     product_terms a es ts  the terms of coefficients es times what their symbols make of ts
+-- A shift makes (x + k)^e, a derivation the sum of Leibniz; a name without operator only keeps its symbols.
+use Rattle.std.specs.Prelude.{ℕ, zero, suc, ◌+◌, ◌-◌, ◌*◌, ◌^◌, min, cond, ltb, ℤ, pos, ◌*ℤ◌, List, [], ◌∷◌, ◌++◌, map, flat_map}
+use Rattle.ct_algebra.specs.Monomial.{Mono, exp, ◌·◌}
+use Rattle.ct_algebra.specs.Names.{Name, x0, x1, x2, x3, x4, x5}
+use Rattle.ct_algebra.specs.Actions.{Action, by_action}
+use Rattle.ct_algebra.specs.Polynomial.{Polynomial}
+use Rattle.ct_mono.specs.Exponents.{with_exponent}
+use Rattle.ct_ore.specs.declared.coefficient_term.CoefficientTerm.{CoefficientTerm}
+use Rattle.ct_ore.specs.PairWeights.{choose, falling_power}
+
+abbrev pub listed : {X : Type 0} → ℕ → (ℕ → X) → List X
+listed zero f = []
+listed (suc n) f = listed n f ++ f n ∷ []
+
+-- ---- what symbols of one name make of a term
+
+abbrev pub how_many : Action → ℕ → ℕ → ℕ
+how_many t k e = by_action t (cond (ltb 0 k) (e + 1) 1) (min k e + 1) 1
+
+abbrev pub ways : Action → ℕ → ℕ → ℕ → ℕ
+ways t k e j = by_action t (choose e j * k ^ j) (choose k j * falling_power e j) 1
+
+abbrev pub symbols_left : Action → ℕ → ℕ → ℕ
+symbols_left t k j = by_action t k (k - j) k
+
+-- a term with the power e of a name, s more of its symbols, and its number taken w times
+abbrev pub moved_term : ℕ → ℕ → ℕ → ℕ → CoefficientTerm → CoefficientTerm
+moved_term i e s w u = record {
+  symbols = with_exponent i (exp u.symbols i + s) u.symbols;
+  names = with_exponent i e u.names;
+  number = u.number *ℤ pos w;
+}
+
+-- the one that lowers the power by j
+abbrev pub lowered_term : Action → ℕ → ℕ → CoefficientTerm → ℕ → CoefficientTerm
+lowered_term t i k u j =
+    moved_term i (exp u.names i - j) (symbols_left t k j) (ways t k (exp u.names i) j) u
+
+abbrev pub raised_term : Action → ℕ → ℕ → CoefficientTerm → List CoefficientTerm
+raised_term t i k u = listed (how_many t k (exp u.names i)) (lowered_term t i k u)
+
+abbrev pub raised : Action → ℕ → ℕ → List CoefficientTerm → List CoefficientTerm
+raised t i k ts = flat_map (raised_term t i k) ts
+
+-- ---- products
+
+abbrev pub multiplied : Mono → ℤ → List CoefficientTerm → List CoefficientTerm
+multiplied n x ts = map (λ t. record { symbols = t.symbols; names = n · t.names; number = x *ℤ t.number }) ts
+
+abbrev pub multiplied_by : List (Mono × ℤ) → List CoefficientTerm → List CoefficientTerm
+multiplied_by us ts = flat_map (λ u. multiplied u.0 u.1 ts) us
+
+module _ (a : Name → Action) where
+  unfoldable pub expanded : Mono → List CoefficientTerm → List CoefficientTerm
+  expanded m ts =
+      raised (a x0) 0 (exp m 0) (raised (a x1) 1 (exp m 1) (raised (a x2) 2 (exp m 2) (raised (a x3) 3 (exp m 3) (raised (a x4) 4 (exp m 4) (raised (a x5) 5 (exp m 5) ts)))))
+
+  abbrev pub product_terms : List (Mono × Polynomial) → List CoefficientTerm → List CoefficientTerm
+  product_terms es ts = flat_map (λ e. multiplied_by e.1.terms (expanded e.0 ts)) es

@@ -1,0 +1,83 @@
+// Operators as lists of coefficient terms, and back.
+ghost use Rattle.std.specs.Prelude.{◌≡◌, ◌++◌, IfOk};
+ghost use Rattle.ct_poly.specs.Terms.{entries};
+ghost use Rattle.ct_ore.specs.Terms.{op_entries};
+ghost use Rattle.ct_ore.specs.CoefficientTerms.{sum_of_parts};
+ghost use Rattle.ct_ore.specs.Measures.{row_of, all_terms};
+ghost use Rattle.ct_ore.specs.Lists.{Fits, IsRun};
+
+use crate::coefficient_term::CoefficientTerm;
+use crate::op::OpTerm;
+use ct_mono::{Monomial, NoMemory};
+use ct_poly::{Poly, Term};
+use std::alloc::Global;
+use std::cmp::Ordering;
+
+// The terms of all coefficients.
+pub fn parts_of(alloc: Global, ops: &[OpTerm]) -> Result<Vec<CoefficientTerm>, NoMemory>
+    ensures { IfOk result (λ v. v.items ≡ all_terms (op_entries ops.now)) }
+{
+    let mut out = Vec::new(alloc);
+    let mut rest = ops;
+    'listing: while let Some((op, more)) = rest.split_first() {
+        append_row(&mut out, &op.mono, op.coef.terms())?;
+        rest = more;
+    }
+    Ok(out)
+}
+
+// Puts the terms of a coefficient at the end.
+fn append_row(out: &mut Vec<CoefficientTerm>, m: &Monomial, ts: &[Term]) -> Result<(), NoMemory>
+    ensures { IfOk result (λ _. out.new.items ≡ out.old.items ++ row_of m.now (entries ts.now)) }
+{
+    let mut rest = ts;
+    'appending: while let Some((t, more)) = rest.split_first() {
+        out.push(CoefficientTerm {
+            symbols: *m,
+            names: t.mono,
+            number: t.coef,
+        })?;
+        rest = more;
+    }
+    Ok(())
+}
+
+// The terms of the operator that a list in written form adds up to.
+pub fn gathered(alloc: Global, ts: &[CoefficientTerm]) -> Result<Vec<OpTerm>, NoMemory>
+    requires { Fits ts.now }
+    ensures { IfOk result (λ v. op_entries v.items ≡ (sum_of_parts ts.now).terms) }
+{
+    let mut out = Vec::new(alloc);
+    let mut rest = ts;
+    'gathering: while let Some((t, _)) = rest.split_first() {
+        let terms = run(alloc, &t.symbols, rest)?;
+        let (_, back) = rest.split_at(terms.len());
+        out.push(OpTerm {
+            mono: t.symbols,
+            coef: Poly::of_terms(terms),
+        })?;
+        rest = back;
+    }
+    Ok(out)
+}
+
+// The terms up to the first with other symbols.
+fn run(alloc: Global, m: &Monomial, ts: &[CoefficientTerm]) -> Result<Vec<Term>, NoMemory>
+    ensures { IfOk result (λ v. IsRun m.now ts.now v.items) }
+{
+    let mut out = Vec::new(alloc);
+    let mut rest = ts;
+    'running: loop {
+        let Some((t, more)) = rest.split_first() else {
+            return Ok(out);
+        };
+        if t.symbols.cmp(m) != Ordering::Equal {
+            return Ok(out);
+        }
+        out.push(Term {
+            mono: t.names,
+            coef: t.number,
+        })?;
+        rest = more;
+    }
+}

@@ -1,0 +1,207 @@
+// Operators: lists of terms with falling products of symbols and no zero coefficient.
+ghost use Rattle.std.specs.Prelude.{◌≡◌, ◌<◌, ◌↔◌, IfOk, IsTrue, length, map};
+ghost use Rattle.ct_algebra.specs.Names.{name_with, symbol};
+ghost use Rattle.ct_algebra.specs.Monomial.{unit};
+ghost use Rattle.ct_algebra.specs.Polynomial.{polys};
+ghost use Rattle.ct_algebra.specs.Operators.{no_operator, term_of};
+ghost use Rattle.ct_mono.specs.Checked.{Answers};
+ghost use Rattle.ct_ore.specs.Terms.{op_entries};
+ghost use Rattle.ct_ore.specs.CoefficientTerms.{sum_of_parts};
+ghost use Rattle.ct_ore.specs.Lists.{Fits, IsPartsOf};
+ghost use Rattle.ct_ore.specs.Naming.{actions_of};
+ghost use Rattle.ct_ore.specs.Measures.{checked_sum, checked_difference, checked_product, checked_combination};
+
+use crate::algebra::Algebra;
+use crate::coefficient_term::CoefficientTerm;
+use crate::coefficients::{gathered, parts_of};
+use crate::measures::product_overflow;
+use crate::product::product_terms;
+use crate::sum::{opposites, sorted, written_sum};
+use ct_mono::{Fault, Monomial, NoMemory};
+use ct_poly::Poly;
+use std::alloc::Global;
+use std::marker::Model;
+
+/// A polynomial before a product of symbols.
+#[derive(Drop)]
+pub struct OpTerm {
+    pub mono: Monomial,
+    pub coef: Poly,
+}
+
+/// An operator of an Ore algebra.
+#[derive(Drop)]
+pub struct Op {
+    terms: Vec<OpTerm>,
+}
+
+impl Model for Op {
+    ghost use Rattle.std.specs.Prelude.{◌≤◌};
+    ghost use Rattle.ct_algebra.specs.Operators.{Operator, operator_code};
+    ghost use Rattle.ct_mono.specs.Limits.{most_terms, largest_norm};
+    ghost use Rattle.ct_ore.specs.Terms.{operator_of_terms, IsOperator};
+    ghost use Rattle.ct_ore.specs.Measures.{term_count, term_norm};
+
+    ghost Value = { Operator };
+
+    ghost coded = { operator_code };
+
+    ghost view = { λ p. operator_of_terms p.terms.items };
+
+    ghost invariant = { λ p. IsOperator p.terms.items × (term_count (operator_of_terms p.terms.items) ≤ most_terms) × (term_norm (operator_of_terms p.terms.items) ≤ largest_norm) };
+}
+
+impl Op {
+    /// The operator 0.
+    pub fn zero(alloc: Global) -> Op
+        ensures { result ≡ no_operator }
+    {
+        Op {
+            terms: Vec::new(alloc),
+        }
+    }
+
+    pub fn is_zero(&self) -> bool
+        ensures { IsTrue result ↔ (self.now ≡ no_operator) }
+    {
+        self.terms.is_empty()
+    }
+
+    /// The terms, products of symbols falling.
+    pub fn terms(&self) -> &[OpTerm]
+        ensures { op_entries result.now ≡ self.now.terms }
+    {
+        self.terms.as_slice()
+    }
+
+    /// A polynomial as an operator.
+    pub fn of_poly(alloc: Global, p: Poly) -> Result<Op, NoMemory>
+        ensures value { IfOk result (λ r. r ≡ term_of unit p) }
+    {
+        let one = Monomial::one();
+        let r = Op::of_term(alloc, p, &one)?;
+        Ok(r)
+    }
+
+    /// The symbol of a name.
+    pub fn symbol(alloc: Global, i: u8) -> Result<Op, NoMemory>
+        requires { i < 6 }
+        ensures value { IfOk result (λ r. r ≡ term_of (symbol (name_with i)) polys.one) }
+    {
+        let one = Poly::constant(alloc, 1)?;
+        let name = Monomial::name(i);
+        let r = Op::of_term(alloc, one, &name)?;
+        Ok(r)
+    }
+
+    /// A polynomial before a product of symbols.
+    pub fn of_term(alloc: Global, p: Poly, m: &Monomial) -> Result<Op, NoMemory>
+        ensures value { IfOk result (λ r. r ≡ term_of m.now p) }
+    {
+        if p.is_zero() {
+            return Ok(Op::zero(alloc));
+        }
+        p.within_limits();
+        let mut terms = Vec::new(alloc);
+        terms.push(OpTerm { mono: *m, coef: p })?;
+        Ok(Op { terms })
+    }
+
+    pub fn copy(&self, alloc: Global) -> Result<Op, NoMemory>
+        ensures value { IfOk result (λ r. r ≡ self.now) }
+    {
+        let parts = self.parts(alloc)?;
+        let r = Op::of_parts(alloc, parts.as_slice())?;
+        Ok(r)
+    }
+
+    // The terms of all coefficients.
+    pub(crate) fn parts(&self, alloc: Global) -> Result<Vec<CoefficientTerm>, NoMemory>
+        ensures { IfOk result (λ v. IsPartsOf self.now v.items) }
+    {
+        let parts = parts_of(alloc, self.terms.as_slice())?;
+        Ok(parts)
+    }
+
+    // The operator that a list in written form adds up to.
+    pub(crate) fn of_parts(alloc: Global, ts: &[CoefficientTerm]) -> Result<Op, NoMemory>
+        requires { Fits ts.now }
+        ensures { IfOk result (λ r. r ≡ sum_of_parts ts.now) }
+    {
+        let terms = gathered(alloc, ts)?;
+        Ok(Op { terms })
+    }
+
+    pub fn add(&self, alloc: Global, other: &Op) -> Result<Op, Fault>
+        ensures { Answers (checked_sum self.now other.now) result }
+    {
+        let mine = self.parts(alloc)?;
+        let its = other.parts(alloc)?;
+        written_sum(alloc, mine.as_slice(), its.as_slice())
+    }
+
+    pub fn sub(&self, alloc: Global, other: &Op) -> Result<Op, Fault>
+        ensures { Answers (checked_difference self.now other.now) result }
+    {
+        let mine = self.parts(alloc)?;
+        let its = other.parts(alloc)?;
+        let opposite = opposites(alloc, its.as_slice())?;
+        written_sum(alloc, mine.as_slice(), opposite.as_slice())
+    }
+
+    /// The left product: the operator that acts as `other` and then as `self`.
+    pub fn mul(&self, alloc: Global, algebra: &Algebra, other: &Op) -> Result<Op, Fault>
+        ensures { Answers (checked_product (actions_of algebra.now) self.now other.now) result }
+    {
+        if self.is_zero() {
+            return Ok(Op::zero(alloc));
+        }
+        if other.is_zero() {
+            return Ok(Op::zero(alloc));
+        }
+        let mine = self.parts(alloc)?;
+        let its = other.parts(alloc)?;
+        match product_overflow(
+            algebra,
+            self.terms(),
+            other.terms(),
+            mine.as_slice(),
+            its.as_slice(),
+        ) {
+            Some(kind) => Err(Fault::Overflow(kind)),
+            None => {
+                let terms = product_terms(alloc, algebra, self.terms(), its.as_slice())?;
+                let parts = sorted(alloc, terms.as_slice())?;
+                let r = Op::of_parts(alloc, parts.as_slice())?;
+                Ok(r)
+            }
+        }
+    }
+
+    /// The sum of the products of cofactors and generators, in list order.
+    pub fn combine(
+        alloc: Global,
+        algebra: &Algebra,
+        cofactors: &[Op],
+        generators: &[Op],
+    ) -> Result<Op, Fault>
+        requires { length cofactors.now ≡ length generators.now }
+        ensures { Answers (checked_combination (actions_of algebra.now) no_operator cofactors.now generators.now) result }
+    {
+        let mut sum = Op::zero(alloc);
+        let mut left = cofactors;
+        let mut right = generators;
+        'combining: loop {
+            let Some((c, cofactors_rest)) = left.split_first() else {
+                return Ok(sum);
+            };
+            let Some((g, generators_rest)) = right.split_first() else {
+                return Ok(sum);
+            };
+            let product = c.mul(alloc, algebra, g)?;
+            sum = sum.add(alloc, &product)?;
+            left = cofactors_rest;
+            right = generators_rest;
+        }
+    }
+}

@@ -1,0 +1,117 @@
+// How many terms the symbols of a name make of a power of the name, and which numbers stand before them.
+ghost use Rattle.std.specs.Prelude.{◌≡◌, ◌+◌, ◌*◌, ◌^◌, ◌<◌, ◌≤◌, ℕ};
+ghost use Rattle.ct_mono.specs.Limits.{largest_degree, largest_norm};
+ghost use Rattle.ct_ore.specs.Naming.{action_of};
+ghost use Rattle.ct_ore.specs.PairTerms.{how_many, ways, symbols_left};
+ghost use Rattle.ct_ore.specs.PairWeights.{derivation_weight, ways_below};
+ghost use Rattle.ct_ore.specs.Bounds.{IsCapped};
+
+use crate::algebra::Action;
+use ct_mono::LARGEST_NORM;
+
+// How many terms k symbols make of the power e.
+pub fn how_many(action: Action, k: u16, e: u16) -> u16
+    requires { e ≤ largest_degree }
+    ensures { result ≡ how_many (action_of action) k e }
+{
+    match action {
+        Action::Shift => { if k == 0 { 1 } else { e + 1 } }
+        Action::Derive => k.min(e) + 1,
+        Action::Still => 1,
+    }
+}
+
+// How many of the k symbols stay where the power is lowered by j.
+pub fn symbols_left(action: Action, k: u16, j: u16) -> u16
+    ensures { result ≡ symbols_left (action_of action) k j }
+{
+    match action {
+        Action::Shift => k,
+        Action::Derive => k.saturating_sub(j),
+        Action::Still => k,
+    }
+}
+
+// The number before the next term, from the number before this one.
+pub fn next_way(action: Action, k: u16, e: u16, j: u16, way: u128) -> Option<u128>
+    requires powers { e ≤ largest_degree }
+    requires symbols { k ≤ largest_degree }
+    requires lowered { j ≤ largest_degree }
+    requires this { way ≡ ways (action_of action) k e j }
+    requires small { way ≤ largest_norm }
+    ensures { IsCapped (ways (action_of action) k e (j + 1)) result }
+{
+    match action {
+        Action::Shift => times_over(way, u32::from(e.saturating_sub(j)) * u32::from(k), j + 1),
+        Action::Derive => times_over(
+            way,
+            u32::from(k.saturating_sub(j)) * u32::from(e.saturating_sub(j)),
+            j + 1,
+        ),
+        Action::Still => Some(way),
+    }
+}
+
+// n times a over b, where b divides this product.
+fn times_over(n: u128, a: u32, b: u16) -> Option<u128>
+    requires small { n ≤ largest_norm }
+    requires some { 0 < b }
+    ensures { (v : ℕ) → v * b ≡ n * a → IsCapped v result }
+{
+    let b = u128::from(b);
+    let a = u128::from(a);
+    let whole = (n / b).checked_mul(a)?;
+    let part = (n % b) * a / b;
+    let sum = whole.checked_add(part)?;
+    if sum > LARGEST_NORM { None } else { Some(sum) }
+}
+
+// The sum, where it is within the largest norm.
+pub fn capped_sum(m: Option<u128>, n: Option<u128>) -> Option<u128>
+    ensures { (v w : ℕ) → IsCapped v m → IsCapped w n → IsCapped (v + w) result }
+{
+    let sum = m?.checked_add(n?)?;
+    if sum > LARGEST_NORM { None } else { Some(sum) }
+}
+
+// The product of positive numbers, where it is within the largest norm.
+pub fn capped_product(m: Option<u128>, n: Option<u128>) -> Option<u128>
+    ensures { (v w : ℕ) → 0 < v → 0 < w → IsCapped v m → IsCapped w n → IsCapped (v * w) result }
+{
+    let product = m?.checked_mul(n?)?;
+    if product > LARGEST_NORM {
+        None
+    } else {
+        Some(product)
+    }
+}
+
+// The weight of the shift by k of the power e.
+pub fn shift_weight(k: u16, e: u16) -> Option<u128>
+    ensures { IsCapped ((1 + k) ^ e) result }
+{
+    let mut weight = Some(1);
+    if k == 0 {
+        return weight;
+    }
+    let base = Some(1 + u128::from(k));
+    for j in 0..e {
+        weight = capped_product(weight, base);
+    }
+    weight
+}
+
+// The weight of k derivations of the power e.
+pub fn derivation_weight(k: u16, e: u16) -> Option<u128>
+    requires powers { e ≤ largest_degree }
+    requires symbols { k ≤ largest_degree }
+    ensures { IsCapped (derivation_weight k e) result }
+{
+    let mut weight = Some(0);
+    let mut way = 1;
+    for j in 0..k.min(e) + 1 {
+        weight = capped_sum(weight, Some(way));
+        way = next_way(Action::Derive, k, e, j, way)?;
+    }
+    weight
+}
