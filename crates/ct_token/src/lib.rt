@@ -1,0 +1,17 @@
+//! The tokens of a text.
+//!
+//! `scan_text` cuts a text into words, numbers, signs, `..` and line ends, and says where the first byte
+//! stands that can begin none of them. Blanks, blank lines and comments stand between tokens.
+//!
+//! Read `specs/Lexical.antt` first: `scan_of` is the lexical grammar, as one pass over the bytes. What a
+//! word or a number means is left to the layers above. `specs/Lexing.antt` says what the tokens of a
+//! text are, without the pass.
+#![tactic(auto)]
+
+pub mod laws;
+mod lexer;
+mod token;
+
+pub use lexer::{Scan, scan_text};
+pub use std::alloc::AllocError as NoMemory;
+pub use token::{Symbol, Token};
