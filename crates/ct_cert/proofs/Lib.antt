@@ -1,0 +1,9 @@
+pub mod Deciding
+pub mod ByAction
+pub mod TermsCompared
+pub mod Steps
+pub mod FreedomSteps
+pub mod Order
+pub mod Values
+pub mod Passing
+pub mod Refusing

@@ -1,0 +1,52 @@
+use Rattle.std.proofs.Common.{Ok, not, ap, sym, ◌∙◌, subst, map}
+use Rattle.std.proofs.lemmas.Result.{err_from_is_err_and}
+use Rattle.ct_ore.specs.Naming.{actions_of, summed_of}
+use Rattle.ct_cert.specs.declared.place.Place.TheVariants.{Found, Scale}
+use Rattle.ct_cert.specs.Arithmetic.{checked_identity}
+use Rattle.ct_ore.specs.Answers.{summand_of, certificate_of}
+use Rattle.ct_cert.specs.Certificates.{names_of}
+use Rattle.ct_cert.specs.Testing.{AnswersTest, test_of}
+use Rattle.ct_cert.specs.Tests.{telescoper_test, denominator_test, part_test, for_each, tests}
+use Rattle.ct_cert.proofs.Order.{scale_made, tests_at_found, tests_at_telescoper, tests_at_scale, tests_at_denominators, tests_at_factors, tests_at_identity}
+use Rattle.ct_cert.proofs.Steps.{stopped}
+use Rattle.ct_cert.proofs.tests_in_order.all_tests.Goals as goal
+
+pub returns-in_err-ending : goal.returns-in_err-ending
+returns-in_err-ending c =
+    let exit = err_from_is_err_and c.from_residual.result c.from_residual.ensures.1 in
+    rw (exit.1, exit.2)
+    (stopped (test_of Found (Ok c.eq.result)) (tests (actions_of c.args.algebra.now) (summed_of c.args.algebra.now) c.args.generators.now c.args.due c.args.found (certificate_of c.args.answer.now)) c.in_err-ending.field-0.0 c.in_err-ending.ensures
+    (λ e ended. tests_at_found (actions_of c.args.algebra.now) (summed_of c.args.algebra.now) c.args.generators.now c.args.due c.args.found (certificate_of c.args.answer.now) e (sym (ap (λ b. test_of Found (Ok b)) c.eq.ensures) ∙ ended)))
+
+pub returns-in_err-telescoper : goal.returns-in_err-telescoper
+returns-in_err-telescoper c =
+    let exit = err_from_is_err_and c.from_residual-in_err-telescoper.result c.from_residual-in_err-telescoper.ensures.1 in
+    rw (exit.1, exit.2)
+    (stopped (telescoper_test (names_of c.as_slice-parts.result.now) c.args.answer.now.telescoper) (tests (actions_of c.args.algebra.now) (summed_of c.args.algebra.now) c.args.generators.now c.args.due c.args.found (certificate_of c.args.answer.now)) c.in_err-telescoper.field-0.0 c.in_err-telescoper.ensures
+    (λ e ended. tests_at_telescoper (actions_of c.args.algebra.now) (summed_of c.args.algebra.now) c.args.generators.now c.args.due c.args.found (certificate_of c.args.answer.now) c.in_ok-ending.field-0 (sym (ap (λ b. test_of Found (Ok b)) c.eq.ensures) ∙ c.in_ok-ending.ensures) e (sym (ap (λ js. telescoper_test js c.args.answer.now.telescoper) (ap names_of c.as_slice-parts.ensures.value ∙ c.requires.parts)) ∙ ended)))
+
+pub returns-in_err-ending-2 : goal.returns-in_err-ending-2
+returns-in_err-ending-2 c =
+    let exit = err_from_is_err_and c.from_residual-in_err-ending-2.result c.from_residual-in_err-ending-2.ensures.1 in
+    rw (exit.1, exit.2)
+    (stopped (test_of Scale (Ok (not c.is_zero.result))) (tests (actions_of c.args.algebra.now) (summed_of c.args.algebra.now) c.args.generators.now c.args.due c.args.found (certificate_of c.args.answer.now)) c.in_err-ending-2.field-0.0 c.in_err-ending-2.ensures
+    (λ e ended. tests_at_scale (actions_of c.args.algebra.now) (summed_of c.args.algebra.now) c.args.generators.now c.args.due c.args.found (certificate_of c.args.answer.now) c.in_ok-ending.field-0 (sym (ap (λ b. test_of Found (Ok b)) c.eq.ensures) ∙ c.in_ok-ending.ensures) c.in_ok-telescoper.field-0 (sym (ap (λ js. telescoper_test js c.args.answer.now.telescoper) (ap names_of c.as_slice-parts.ensures.value ∙ c.requires.parts)) ∙ c.in_ok-telescoper.ensures) e (sym (scale_made c.args.answer.now.scale c.is_zero.result c.is_zero.ensures) ∙ ended)))
+
+pub returns-in_err-denominators : goal.returns-in_err-denominators
+returns-in_err-denominators c =
+    let exit = err_from_is_err_and c.from_residual-in_err-denominators.result c.from_residual-in_err-denominators.ensures.1 in
+    rw (exit.1, exit.2)
+    (stopped (for_each denominator_test (map summand_of c.as_slice-parts.result.now)) (tests (actions_of c.args.algebra.now) (summed_of c.args.algebra.now) c.args.generators.now c.args.due c.args.found (certificate_of c.args.answer.now)) c.in_err-denominators.field-0.0 c.in_err-denominators.ensures
+    (λ e ended. tests_at_denominators (actions_of c.args.algebra.now) (summed_of c.args.algebra.now) c.args.generators.now c.args.due c.args.found (certificate_of c.args.answer.now) c.in_ok-ending.field-0 (sym (ap (λ b. test_of Found (Ok b)) c.eq.ensures) ∙ c.in_ok-ending.ensures) c.in_ok-telescoper.field-0 (sym (ap (λ js. telescoper_test js c.args.answer.now.telescoper) (ap names_of c.as_slice-parts.ensures.value ∙ c.requires.parts)) ∙ c.in_ok-telescoper.ensures) c.in_ok-ending-2.field-0 (sym (scale_made c.args.answer.now.scale c.is_zero.result c.is_zero.ensures) ∙ c.in_ok-ending-2.ensures) e (sym (ap (λ ps. for_each denominator_test (map summand_of ps)) c.as_slice-parts.ensures.value) ∙ ended)))
+
+pub returns-in_err-factors : goal.returns-in_err-factors
+returns-in_err-factors c =
+    let exit = err_from_is_err_and c.from_residual-in_err-factors.result c.from_residual-in_err-factors.ensures.1 in
+    rw (exit.1, exit.2)
+    (stopped (for_each (part_test (actions_of c.args.algebra.now) c.args.answer.now.scale) (map summand_of c.as_slice-parts.result.now)) (tests (actions_of c.args.algebra.now) (summed_of c.args.algebra.now) c.args.generators.now c.args.due c.args.found (certificate_of c.args.answer.now)) c.in_err-factors.field-0.0 c.in_err-factors.ensures
+    (λ e ended. tests_at_factors (actions_of c.args.algebra.now) (summed_of c.args.algebra.now) c.args.generators.now c.args.due c.args.found (certificate_of c.args.answer.now) c.in_ok-ending.field-0 (sym (ap (λ b. test_of Found (Ok b)) c.eq.ensures) ∙ c.in_ok-ending.ensures) c.in_ok-telescoper.field-0 (sym (ap (λ js. telescoper_test js c.args.answer.now.telescoper) (ap names_of c.as_slice-parts.ensures.value ∙ c.requires.parts)) ∙ c.in_ok-telescoper.ensures) c.in_ok-ending-2.field-0 (sym (scale_made c.args.answer.now.scale c.is_zero.result c.is_zero.ensures) ∙ c.in_ok-ending-2.ensures) c.in_ok-denominators.field-0 (sym (ap (λ ps. for_each denominator_test (map summand_of ps)) c.as_slice-parts.ensures.value) ∙ c.in_ok-denominators.ensures) e (sym (ap (λ ps. for_each (part_test (actions_of c.args.algebra.now) c.args.answer.now.scale) (map summand_of ps)) c.as_slice-parts.ensures.value) ∙ ended)))
+
+pub returns : goal.returns
+returns c =
+    subst (λ t. AnswersTest t c.checked_ending.result) (sym (tests_at_identity (actions_of c.args.algebra.now) (summed_of c.args.algebra.now) c.args.generators.now c.args.due c.args.found (certificate_of c.args.answer.now) c.in_ok-ending.field-0 (sym (ap (λ b. test_of Found (Ok b)) c.eq.ensures) ∙ c.in_ok-ending.ensures) c.in_ok-telescoper.field-0 (sym (ap (λ js. telescoper_test js c.args.answer.now.telescoper) (ap names_of c.as_slice-parts.ensures.value ∙ c.requires.parts)) ∙ c.in_ok-telescoper.ensures) c.in_ok-ending-2.field-0 (sym (scale_made c.args.answer.now.scale c.is_zero.result c.is_zero.ensures) ∙ c.in_ok-ending-2.ensures) c.in_ok-denominators.field-0 (sym (ap (λ ps. for_each denominator_test (map summand_of ps)) c.as_slice-parts.ensures.value) ∙ c.in_ok-denominators.ensures) c.in_ok-factors.field-0 (sym (ap (λ ps. for_each (part_test (actions_of c.args.algebra.now) c.args.answer.now.scale) (map summand_of ps)) c.as_slice-parts.ensures.value) ∙ c.in_ok-factors.ensures)))
+    (c.checked_ending.ensures (checked_identity (actions_of c.args.algebra.now) c.args.generators.now (certificate_of c.args.answer.now)) c.identity_holds.ensures)

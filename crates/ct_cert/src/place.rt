@@ -1,0 +1,56 @@
+// The places of the tests, and what the check answers.
+
+use ct_mono::Kind;
+use std::alloc::AllocError;
+
+/// Which test failed or overflowed. Names are given by their numbers.
+#[derive(Clone, Copy)]
+pub enum Place {
+    Found,
+    Telescoper,
+    Scale,
+    Denominator(u8),
+    Part(u8),
+    Identity,
+}
+
+/// Whether the report passes, or the first place that fails.
+#[derive(Clone, Copy)]
+pub enum Verdict {
+    Yes,
+    No(Place),
+}
+
+/// Why the check has no answer.
+#[derive(Clone, Copy)]
+pub enum CheckFault {
+    Overflow(Place, Kind),
+    NoMemory,
+}
+
+/// A support: its number in the list, its order and its degree.
+#[derive(Clone, Copy, Debug, PartialEq, Eq)]
+pub struct Support {
+    pub index: u16,
+    pub order: u16,
+    pub degree: u16,
+}
+
+// Why the tests end before the last one passes.
+#[derive(Clone, Copy)]
+pub(crate) enum Stop {
+    No(Place),
+    Overflow(Place, Kind),
+    NoMemory,
+}
+
+impl From<AllocError> for Stop {
+    ghost use Rattle.std.specs.Prelude.{◌≡◌};
+    ghost use Rattle.ct_cert.specs.declared.place.Stop.TheVariants.{NoMemory};
+
+    ghost from_gives = { λ _ e. e ≡ NoMemory };
+
+    fn from(_: AllocError) -> Stop {
+        Stop::NoMemory
+    }
+}
