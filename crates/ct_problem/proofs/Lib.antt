@@ -1,0 +1,13 @@
+pub mod Places
+pub mod Turns
+pub mod Plainness
+pub mod Values
+pub mod Answering
+pub mod Steps
+pub mod AlgebraNames
+pub mod SummedNames
+pub mod CoefficientOfOne
+pub mod EvaluableExpressions
+pub mod SummedActions
+pub mod WellFormedForms
+pub mod PolynomialValues

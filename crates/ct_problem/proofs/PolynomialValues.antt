@@ -1,0 +1,147 @@
+-- The value of an expression without symbols is a polynomial. Main lemma `polynomials_lose_nothing`, by induction on the
+-- expression: sums, differences and products of polynomials are polynomials.
+use Rattle.std.proofs.Common.{◌≡◌, ℕ, zero, suc, Bool, true, false, List, [], ◌∷◌, map, Option, Some, None, Ok, refl, sym, ap, ap₂, ◌∙◌, subst}
+use Rattle.std.proofs.lemmas.Bool.{false≢true}
+use Rattle.ct_algebra.specs.Group.{hom_neg}
+use Rattle.ct_algebra.specs.Names.{Name, name_with}
+use Rattle.ct_algebra.specs.Monomial.{unit}
+use Rattle.ct_algebra.specs.Polynomial.{Polynomial, polys, times}
+use Rattle.ct_algebra.specs.Substitution.{number, name}
+use Rattle.ct_algebra.specs.Actions.{Action}
+use Rattle.ct_algebra.specs.Operators.{Operator, no_operator, negative, operator_group, polynomial_at, product_of, sum_of_operators, term_of}
+use Rattle.ct_algebra.proofs.OperatorTerms.{at-term_of, negatives_are, pick-same, term_of-sum, term_of-zero, term_of_hom}
+use Rattle.ct_algebra.proofs.ProductRule.{multiple-term_of, product_of-polynomial}
+use Rattle.ct_mono.specs.Checked.{Checked, ◌>>=◌, both_fit, verdict_ok}
+use Rattle.ct_ore.specs.Measures.{checked_sum, checked_difference, checked_product, difference_of_operators}
+use Rattle.ct_problem.specs.declared.expr.Expr.{Expr, roll-Expr}
+use Rattle.ct_problem.specs.declared.expr.Expr.TheFolds.{fold-roll-Expr, fold-roll-Summand, ind-Expr, map-Expr, map-Summand}
+use Rattle.ct_problem.specs.declared.expr.Expr.TheOpen.{Expr-F, Summand-F}
+use Rattle.ct_problem.specs.declared.expr.Summand.{Summand, roll-Summand}
+use Rattle.ct_problem.specs.Value.{joined, multiplied, one_operator, operator_of_polynomial, or_else, power_from, product_from, sum_from, value_of, value_of_term, value_step, has_no_symbol, has_no_symbol_term, no_symbol_step, all_true}
+use Rattle.ct_problem.specs.ValueLaws.{PolynomialsLoseNothing}
+use Rattle.ct_problem.proofs.Values.{both}
+
+-- ---- polynomials among operators
+
+abbrev IsPlain : Operator → Type 0
+IsPlain v = (p : Polynomial) × (v ≡ term_of unit p)
+
+plain_is : (v : Operator) → IsPlain v → v ≡ operator_of_polynomial (polynomial_at v unit)
+plain_is v plain =
+    let coefficient : polynomial_at v unit ≡ plain.0 = ap (λ (w : Operator). polynomial_at w unit) plain.1 ∙ at-term_of unit unit plain.0 ∙ pick-same unit unit plain.0 refl in
+    plain.1 ∙ ap (term_of unit) (sym coefficient)
+
+plain_zero : IsPlain no_operator
+plain_zero = (polys.zero, sym (term_of-zero unit))
+
+plain_sum : (v w : Operator) → IsPlain v → IsPlain w → IsPlain (sum_of_operators v w)
+plain_sum v w p q = (polys.group.◌+◌ p.0 q.0, ap₂ sum_of_operators p.1 q.1 ∙ sym (term_of-sum unit p.0 q.0))
+
+plain_negative : (v : Operator) → IsPlain v → IsPlain (negative v)
+plain_negative v p = (polys.group.neg p.0, negatives_are v ∙ ap operator_group.neg p.1 ∙ sym (hom_neg (term_of_hom unit) p.0))
+
+plain_product : (a : Name → Action) (v w : Operator) → IsPlain v → IsPlain w → IsPlain (product_of a v w)
+plain_product a v w p q = (times p.0 q.0, ap₂ (product_of a) p.1 q.1 ∙ product_of-polynomial a p.0 (term_of unit q.0) ∙ multiple-term_of a p.0 unit q.0)
+
+-- ---- checked steps
+
+checked_sum-plain : (v w r : Operator) → IsPlain v → IsPlain w → checked_sum v w ≡ Ok r → IsPlain r
+unfolding checked_sum
+checked_sum-plain v w r p q e = subst IsPlain (verdict_ok _ _ _ e) (plain_sum v w p q)
+
+checked_difference-plain : (v w r : Operator) → IsPlain v → IsPlain w → checked_difference v w ≡ Ok r → IsPlain r
+unfolding checked_difference difference_of_operators
+checked_difference-plain v w r p q e = subst IsPlain (verdict_ok _ _ _ e) (plain_sum v (negative w) p (plain_negative w q))
+
+checked_product-plain : (a : Name → Action) (v w r : Operator) → IsPlain v → IsPlain w → checked_product a v w ≡ Ok r → IsPlain r
+unfolding checked_product
+checked_product-plain a v w r p q e = subst IsPlain (verdict_ok _ _ _ e) (plain_product a v w p q)
+
+-- what was added up or multiplied so far
+abbrev SoFar : Option Operator → Type 0
+SoFar None = Unit {0}
+SoFar (Some v) = IsPlain v
+
+so_far-or : (other : Operator) (o : Option Operator) → IsPlain other → SoFar o → IsPlain (or_else other o)
+so_far-or other None p so = p
+so_far-or other (Some v) p so = so
+
+joined-plain : (o : Option Operator) (negative : Bool) (w r : Operator) → SoFar o → IsPlain w → joined o negative w ≡ Ok r → IsPlain r
+joined-plain None true w r so p e = checked_difference-plain no_operator w r plain_zero p e
+joined-plain None false w r so p e = let same : w ≡ r = cc in subst IsPlain same p
+joined-plain (Some v) true w r so p e = checked_difference-plain v w r so p e
+joined-plain (Some v) false w r so p e = checked_sum-plain v w r so p e
+
+one_plain : IsPlain one_operator
+one_plain = (_, refl)
+
+module _ (a : Name → Action) where
+  multiplied-plain : (o : Option Operator) (w r : Operator) → SoFar o → IsPlain w → multiplied a o w ≡ Ok r → IsPlain r
+  multiplied-plain None w r so p e = let same : w ≡ r = cc in subst IsPlain same p
+  multiplied-plain (Some v) w r so p e = checked_product-plain a v w r so p e
+
+  power-plain : (so base r : Operator) (n : ℕ) → IsPlain so → IsPlain base → power_from a so n base ≡ Ok r → IsPlain r
+  unfolding power_from
+  power-plain so base r zero p q e = let same : so ≡ r = cc in subst IsPlain same p
+  power-plain so base r (suc n) p q e =
+      let steps = both_fit (checked_product a so base) (λ more. power_from a more n base) r e in
+      power-plain steps.value base r n (checked_product-plain a so base steps.value p q steps.first) q steps.rest
+
+  -- ---- expressions
+
+  -- its value is a polynomial, if it has no symbol
+  abbrev Claim : Expr → Type 0
+  Claim x = (v : Operator) → value_of a x ≡ Ok v → has_no_symbol x ≡ true → IsPlain v
+
+  abbrev TermClaim : Summand → Type 0
+  TermClaim t = (v : Operator) → (value_of_term a t).1 ≡ Ok v → has_no_symbol_term t ≡ true → IsPlain v
+
+  terms-plain : (ts : List ((t : Summand) × TermClaim t)) (o : Option Operator) (r : Operator) → SoFar o
+      → all_true (map has_no_symbol_term (map (λ t. t.0) ts)) ≡ true → sum_from o (map (value_of_term a) (map (λ t. t.0) ts)) ≡ Ok r → IsPlain r
+  unfolding sum_from
+  terms-plain [] o r so none e = let same : or_else no_operator o ≡ r = cc in subst IsPlain same (so_far-or no_operator o plain_zero so)
+  terms-plain (t ∷ ts) o r so none e =
+      let parts = both (has_no_symbol_term t.0) (all_true (map has_no_symbol_term (map (λ t. t.0) ts))) none in
+      let rest = λ (more : Operator). sum_from (Some more) (map (value_of_term a) (map (λ t. t.0) ts)) in
+      let first = both_fit (value_of_term a t.0).1 (λ x. joined o (value_of_term a t.0).0 x >>= rest) r e in
+      let second = both_fit (joined o (value_of_term a t.0).0 first.value) rest r first.rest in
+      terms-plain ts (Some second.value) r (joined-plain o (value_of_term a t.0).0 first.value second.value so (t.1 first.value first.first parts.0) second.first) parts.1 second.rest
+
+  factors-plain : (fs : List ((x : Expr) × Claim x)) (o : Option Operator) (r : Operator) → SoFar o
+      → all_true (map has_no_symbol (map (λ x. x.0) fs)) ≡ true → product_from a o (map (value_of a) (map (λ x. x.0) fs)) ≡ Ok r → IsPlain r
+  unfolding product_from
+  factors-plain [] o r so none e = let same : or_else one_operator o ≡ r = cc in subst IsPlain same (so_far-or one_operator o one_plain so)
+  factors-plain (f ∷ fs) o r so none e =
+      let parts = both (has_no_symbol f.0) (all_true (map has_no_symbol (map (λ x. x.0) fs))) none in
+      let rest = λ (more : Operator). product_from a (Some more) (map (value_of a) (map (λ x. x.0) fs)) in
+      let first = both_fit (value_of a f.0) (λ x. multiplied a o x >>= rest) r e in
+      let second = both_fit (multiplied a o first.value) rest r first.rest in
+      factors-plain fs (Some second.value) r (multiplied-plain o first.value second.value so (f.1 first.value first.first parts.0) second.first) parts.1 second.rest
+
+  layer-plain : (y : Expr-F ((x : Expr) × Claim x) ((t : Summand) × TermClaim t)) → Claim (roll-Expr (map-Expr _ _ _ _ (λ x. x.0) (λ t. t.0) y))
+  unfolding value_of value_of_term has_no_symbol has_no_symbol_term value_step no_symbol_step
+  layer-plain (Expr-F.Whole n) v e none =
+      let same : Ok (operator_of_polynomial (number n)) ≡ Ok v = sym (fold-roll-Expr _ _ _ _ _) ∙ e in
+      let value : operator_of_polynomial (number n) ≡ v = cc in
+      (number n, sym value)
+  layer-plain (Expr-F.Name i) v e none =
+      let same : Ok (operator_of_polynomial (name (name_with i))) ≡ Ok v = sym (fold-roll-Expr _ _ _ _ _) ∙ e in
+      let value : operator_of_polynomial (name (name_with i)) ≡ v = cc in
+      (name (name_with i), sym value)
+  layer-plain (Expr-F.Symbol i) v e none =
+      let no : false ≡ true = sym (fold-roll-Expr _ _ _ _ _) ∙ none in absurd (false≢true no)
+  layer-plain (Expr-F.Sum ts) v e none = terms-plain ts None v tt (sym (fold-roll-Expr _ _ _ _ _) ∙ none) (sym (fold-roll-Expr _ _ _ _ _) ∙ e)
+  layer-plain (Expr-F.Product fs) v e none = factors-plain fs None v tt (sym (fold-roll-Expr _ _ _ _ _) ∙ none) (sym (fold-roll-Expr _ _ _ _ _) ∙ e)
+  layer-plain (Expr-F.Power base n) v e none =
+      let steps = both_fit (value_of a base.0) (λ x. power_from a one_operator n x) v (sym (fold-roll-Expr _ _ _ _ _) ∙ e) in
+      power-plain one_operator steps.value v n one_plain (base.1 steps.value steps.first (sym (fold-roll-Expr _ _ _ _ _) ∙ none)) steps.rest
+
+  term-plain : (y : Summand-F ((x : Expr) × Claim x) ((t : Summand) × TermClaim t)) → TermClaim (roll-Summand (map-Summand _ _ _ _ (λ x. x.0) (λ t. t.0) y))
+  unfolding value_of value_of_term has_no_symbol has_no_symbol_term
+  term-plain y v e none = y.expr.1 v (ap (λ (s : Bool × Checked Operator). s.1) (sym (fold-roll-Summand _ _ _ _ _)) ∙ e) (sym (fold-roll-Summand _ _ _ _ _) ∙ none)
+
+  values-plain : (x : Expr) → Claim x
+  values-plain = ind-Expr Claim TermClaim (λ x y is. subst (λ z. Claim (roll-Expr z)) is (layer-plain y)) (λ x y is. subst (λ z. TermClaim (roll-Summand z)) is (term-plain y))
+
+pub polynomials_lose_nothing : PolynomialsLoseNothing
+polynomials_lose_nothing a x v e none = plain_is v (values-plain a x v e none)

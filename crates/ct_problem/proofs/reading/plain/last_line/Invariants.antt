@@ -1,0 +1,7 @@
+use Rattle.std.proofs.Common.{◌≡◌, drop, Some}
+use Rattle.ct_problem.specs.Plain.{after_all}
+use Rattle.ct_problem.specs.declared.reading.plain.Line.TheVariants.{Ended}
+use Rattle.ct_problem.proofs.reading.plain.last_line.Given as goal
+
+abbrev pub invariant-loop-b : goal.invariant-loop-b
+invariant-loop-b l = after_all (Some Ended) l.text ≡ after_all (Some l.line) (drop l.b-index l.text)

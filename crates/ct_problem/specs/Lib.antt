@@ -1,0 +1,14 @@
+pub mod Plain
+pub mod Input
+pub mod Cursor
+pub mod Number
+pub mod Expressions
+pub mod Nests
+pub mod Lines
+pub mod Declarations
+pub mod ProblemLines
+pub mod ReportLines
+pub mod FirstForm
+pub mod Value
+pub mod WellFormed
+pub mod ValueLaws

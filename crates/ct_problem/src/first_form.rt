@@ -1,0 +1,42 @@
+// What a text in the first form stands for.
+
+use crate::expr::Expr;
+use ct_ore::Algebra;
+use sqlite_items::Items;
+
+/// A problem with one support: its names, its generators, and the one order and degree to try.
+#[derive(Drop)]
+pub struct Problem {
+    pub algebra: Algebra,
+    pub generators: Items<Expr>,
+    pub order: u16,
+    pub degree: u16,
+}
+
+/// What is put in front of a summed name's symbol: a numerator over a denominator.
+#[derive(Drop)]
+pub struct Quotient {
+    pub numerator: Expr,
+    pub denominator: Expr,
+}
+
+/// A report that found a telescoper. `quotients` and `factors` have an entry for each summed name, in
+/// order, and `cofactors` one for each generator.
+#[derive(Drop)]
+pub struct Report {
+    pub index: u16,
+    pub order: u16,
+    pub degree: u16,
+    pub telescoper: Expr,
+    pub quotients: Items<Quotient>,
+    pub scale: Expr,
+    pub factors: Items<Expr>,
+    pub cofactors: Items<Expr>,
+}
+
+/// A problem, and the report that is to be checked against it.
+#[derive(Drop)]
+pub struct FirstForm {
+    pub problem: Problem,
+    pub report: Report,
+}
