@@ -1,2 +1,5 @@
 mod FrontRead
 mod Reported
+mod Parts
+mod CertificateFits
+mod Shown

@@ -5,7 +5,8 @@ use Rattle.std.proofs.Common.{◌≡◌, ◌+◌, ap, ◌∙◌, arith, true, in
 use Rattle.std.proofs.lemmas.Bool.{cases_lt}
 use Rattle.std.proofs.lemmas.List.{length-take, take_all}
 use Rattle.ct_io.specs.declared.command.Command.{Command}
-use Rattle.ct_run.specs.Out.{Output, largest_text, out}
+use Rattle.ct_run.specs.Output.{Output}
+use Rattle.ct_run.specs.Out.{largest_text, out}
 use Rattle.ct_run.specs.Run.{Reports}
 use Rattle.ct_run.specs.declared.status.Status.{Status}
 

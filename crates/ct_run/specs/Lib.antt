@@ -1,5 +1,9 @@
 pub mod Status
 pub mod Words
+pub mod Output
+pub mod Lines
+pub mod Checking
+pub mod Fractions
 pub mod Out
 pub mod Run
 pub mod Reading

@@ -9,7 +9,8 @@ use Rattle.std.specs.Prelude.{◌≡◌, ◌≢◌, ℕ, ◌+◌, ◌≤◌, Lis
 use Rattle.std.specs.Io.{StartsWith}
 use Rattle.std.specs.Io.KnownBytes.{Appends, Keeps}
 use Rattle.ct_io.specs.Faults.{Rose}
-use Rattle.ct_run.specs.Out.{Output, largest_text}
+use Rattle.ct_run.specs.Output.{Output}
+use Rattle.ct_run.specs.Out.{largest_text}
 use Rattle.ct_run.specs.Status.{status_of}
 use Rattle.ct_run.specs.declared.status.Status.{Status}
 use Rattle.ct_run.specs.declared.status.Status.TheVariants.{ReadFault, WriteFault, NoMemory}

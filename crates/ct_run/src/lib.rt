@@ -9,10 +9,12 @@
 #![tactic(auto)]
 
 mod answer;
+mod lines;
 mod output;
 mod reading;
 mod status;
 mod top;
+mod values;
 mod words;
 mod writing;
 

@@ -3,9 +3,11 @@ use crate::{MemSink, MemSource, NoGate, NoMemory, Status, run};
 use std::alloc::Global;
 use std::test::Fail;
 
+mod rows;
+
 const TEXT: &[u8] = b"no problem\n";
 
-fn words(alloc: Global, given: &[&str]) -> Result<Vec<String>, NoMemory> {
+pub(crate) fn words(alloc: Global, given: &[&str]) -> Result<Vec<String>, NoMemory> {
     let mut words = Vec::new(alloc);
     for word in given {
         words.push(String::from_str(alloc, word)?)?;
@@ -18,7 +20,7 @@ fn source(alloc: Global, fails: &[u64]) -> Result<MemSource, NoMemory> {
     Ok(MemSource::new(text, 4, Vec::from_slice(alloc, fails)?))
 }
 
-fn sink(alloc: Global, space: usize, fails: &[u64]) -> Result<MemSink, NoMemory> {
+pub(crate) fn sink(alloc: Global, space: usize, fails: &[u64]) -> Result<MemSink, NoMemory> {
     MemSink::new(alloc, space, 6, Vec::from_slice(alloc, fails)?)
 }
 

@@ -1,0 +1,81 @@
+-- What a report on an algebra's names stands for fits them: a summand for each summed name, a cofactor for each generator.
+-- Main lemmas `certificate_fits` and `values_length`, cited by `answer_form` and by what a yes means. By the steps that fit.
+use Rattle.std.proofs.Common.{◌≡◌, refl, ℕ, ◌+◌, List, [], ◌∷◌, ◌++◌, map, length, Ok, sym, ◌∙◌, ap, arith, length-append}
+use Rattle.ct_algebra.specs.Names.{Name}
+use Rattle.ct_algebra.specs.Actions.{Action}
+use Rattle.ct_algebra.specs.Operators.{Operator}
+use Rattle.ct_algebra.specs.Polynomial.{Polynomial}
+use Rattle.ct_algebra.specs.Certificate.{Certificate}
+use Rattle.ct_mono.specs.Checked.{both_fit, ◌>>=◌}
+use Rattle.ct_ore.specs.Naming.{Naming, actions_of, summed_of}
+use Rattle.ct_problem.specs.declared.expr.Expr.{Expr}
+use Rattle.ct_problem.specs.declared.first_form.Quotient.{Quotient}
+use Rattle.ct_problem.specs.declared.first_form.Report.{Report}
+use Rattle.ct_problem.specs.Value.{value_of, checked_polynomial}
+use Rattle.ct_problem.specs.WellFormed.{IsReportOn}
+use Rattle.ct_run.specs.Checking.{checked_values, checked_polynomials, checked_quotients, checked_certificate, summands_of}
+
+module _ (a : Name → Action) where
+  pub values_length :
+      (done : List Operator) (xs : List Expr) (vs : List Operator) → checked_values a done xs ≡ Ok vs →
+      length vs ≡ length done + length xs
+  values_length done [] vs fits = let same : done ≡ vs = cc in omega (arith, ap length same)
+  values_length done (x ∷ xs) vs fits =
+      let one = both_fit (value_of a x) (λ v. checked_values a (done ++ v ∷ []) xs) vs fits in
+      omega (arith, values_length (done ++ one.value ∷ []) xs vs one.rest, length-append done (one.value ∷ []))
+
+  polynomials_length :
+      (done : List Polynomial) (xs : List Expr) (vs : List Polynomial) → checked_polynomials a done xs ≡ Ok vs →
+      length vs ≡ length done + length xs
+  polynomials_length done [] vs fits = let same : done ≡ vs = cc in omega (arith, ap length same)
+  polynomials_length done (x ∷ xs) vs fits =
+      let one = both_fit (checked_polynomial a x) (λ v. checked_polynomials a (done ++ v ∷ []) xs) vs fits in
+      omega (arith, polynomials_length (done ++ one.value ∷ []) xs vs one.rest, length-append done (one.value ∷ []))
+
+  quotients_length :
+      (done : List (Operator × Polynomial)) (qs : List Quotient) (vs : List (Operator × Polynomial)) →
+      checked_quotients a done qs ≡ Ok vs → length vs ≡ length done + length qs
+  quotients_length done [] vs fits = let same : done ≡ vs = cc in omega (arith, ap length same)
+  quotients_length done (q ∷ qs) vs fits =
+      let one = both_fit (value_of a q.numerator) (λ n. checked_polynomial a q.denominator >>= (λ d. checked_quotients a (done ++ (n, d) ∷ []) qs)) vs fits in
+      let two = both_fit (checked_polynomial a q.denominator) (λ d. checked_quotients a (done ++ (one.value, d) ∷ []) qs) vs one.rest in
+      omega (arith, quotients_length (done ++ (one.value, two.value) ∷ []) qs vs two.rest, length-append done ((one.value, two.value) ∷ []))
+
+summands_of-names :
+    (js : List Name) (qs : List (Operator × Polynomial)) (fs : List Polynomial) → length qs ≡ length js →
+    length fs ≡ length js → map (λ s. s.name) (summands_of js qs fs) ≡ js
+summands_of-names [] qs fs many few = refl
+summands_of-names (j ∷ js) [] fs many few = absurd (omega arith)
+summands_of-names (j ∷ js) (q ∷ qs) [] many few = absurd (omega arith)
+summands_of-names (j ∷ js) (q ∷ qs) (f ∷ fs) many few = ap (λ is. j ∷ is) (summands_of-names js qs fs (omega arith) (omega arith))
+
+-- a certificate with a summand for each of the names and so many cofactors
+pub record FitsNames (names : List Naming) (generators : ℕ) (c : Certificate) : Type 0 where
+  pub names_are : map (λ s. s.name) c.summands ≡ summed_of names
+  pub cofactors : length c.cofactors ≡ generators
+
+pub certificate_fits :
+    (names : List Naming) (generators : ℕ) (r : Report) (c : Certificate) → IsReportOn (length (summed_of names)) generators r →
+    checked_certificate names r ≡ Ok c → FitsNames names generators c
+unfolding checked_certificate
+certificate_fits names generators r c on fits =
+    let a = actions_of names in
+    let telescoper = both_fit (value_of a r.telescoper) _ c fits in
+    let quotients = both_fit (checked_quotients a [] r.quotients) _ c telescoper.rest in
+    let scale = both_fit (checked_polynomial a r.scale) _ c quotients.rest in
+    let factors = both_fit (checked_polynomials a [] r.factors) _ c scale.rest in
+    let cofactors = both_fit (checked_values a [] r.cofactors) _ c factors.rest in
+    let whole : record {
+      telescoper = telescoper.value;
+      scale = scale.value;
+      summands = summands_of (summed_of names) quotients.value factors.value;
+      cofactors = cofactors.value;
+    } ≡ c = cc in
+    record {
+      names_are =
+          ap (λ (d : Certificate). map (λ s. s.name) d.summands) (sym whole)
+          ∙ summands_of-names (summed_of names) quotients.value factors.value
+          (omega (arith, quotients_length a [] r.quotients quotients.value quotients.first, on.each_quotient))
+          (omega (arith, polynomials_length a [] r.factors factors.value factors.first, on.each_factor));
+      cofactors = omega (arith, ap (λ (d : Certificate). length d.cofactors) whole, values_length a [] r.cofactors cofactors.value cofactors.first, on.each_cofactor);
+    }

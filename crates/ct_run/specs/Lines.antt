@@ -1,0 +1,69 @@
+-- The lines that `check` gives out, and their outcomes. This project's own.
+--     line_of text                    the text, and the end of its line
+--     not_yet                         a text of a form that isn't read
+--     overflow_in_setup, overflow_in_report   an expression overflows in this kind
+--     yes_line, no_line, overflow_in_test     the tests pass, one fails at its place, or one overflows there
+--     verdict_line names t            the line of the tests' outcome
+use Rattle.std.specs.Prelude.{ℕ, List, [], ◌∷◌, ◌++◌, Ok, Err, codes, get_or}
+use Rattle.ct_mono.specs.declared.fault.Kind.{Kind}
+use Rattle.ct_mono.specs.declared.fault.Kind.TheVariants.{Degree, Terms, Number, Size}
+use Rattle.ct_algebra.specs.Actions.{Still}
+use Rattle.ct_ore.specs.Naming.{Naming}
+use Rattle.ct_ore.specs.declared.algebra.Role.TheVariants.{Param}
+use Rattle.ct_cert.specs.declared.place.Place.{Place}
+use Rattle.ct_cert.specs.declared.place.Place.TheVariants.{Found, Telescoper, Scale, Denominator, Part, Identity}
+use Rattle.ct_cert.specs.Testing.{Tested, Fails, Overflows}
+use Rattle.ct_run.specs.declared.status.Outcome.TheVariants.{Done, BadInput, Overflow, Usage, CheckNo}
+use Rattle.ct_run.specs.Output.{Output}
+
+abbrev pub line_of : List ℕ → List ℕ
+line_of text = text ++ 10 ∷ []
+
+unfoldable pub kind_text : Kind → List ℕ
+kind_text Degree = codes "degree"
+kind_text Terms = codes "terms"
+kind_text Number = codes "number"
+kind_text Size = codes "size"
+
+-- the text of a name; of none past the last one
+abbrev pub name_text : List Naming → ℕ → List ℕ
+name_text names i = (get_or names i (record { text = []; action = Still; role = Param })).text
+
+unfoldable pub place_text : List Naming → Place → List ℕ
+place_text names Found = codes "found"
+place_text names Telescoper = codes "telescoper"
+place_text names Scale = codes "scale"
+place_text names (Denominator i) = codes "denominator " ++ name_text names i
+place_text names (Part i) = codes "part " ++ name_text names i
+place_text names Identity = codes "identity"
+
+-- the text is of a form that is not read
+abbrev pub not_yet : Output
+not_yet = record { outcome = BadInput; text = line_of (codes "bad input NotYet") }
+
+-- what is given out where the words are refused
+abbrev pub usage : Output
+usage = record { outcome = Usage; text = line_of (codes "usage: mgfun COMMAND [--workers N] [--seed N]") }
+
+abbrev pub overflow_line : List ℕ → Kind → Output
+overflow_line text kind = record { outcome = Overflow; text = line_of (text ++ kind_text kind) }
+
+unfoldable pub overflow_in_setup : Kind → Output
+overflow_in_setup kind = overflow_line (codes "overflow setup input ") kind
+
+unfoldable pub overflow_in_report : Kind → Output
+overflow_in_report kind = overflow_line (codes "overflow check input ") kind
+
+abbrev pub yes_line : Output
+yes_line = record { outcome = Done; text = line_of (codes "yes found 0") }
+
+unfoldable pub no_line : List Naming → Place → Output
+no_line names place = record { outcome = CheckNo; text = line_of (codes "no " ++ place_text names place) }
+
+unfoldable pub overflow_in_test : List Naming → Place → Kind → Output
+overflow_in_test names place kind = overflow_line (codes "overflow check " ++ place_text names place ++ codes " ") kind
+
+abbrev pub verdict_line : List Naming → Tested (Unit {0}) → Output
+verdict_line names (Ok passed) = yes_line
+verdict_line names (Err (Fails place)) = no_line names place
+verdict_line names (Err (Overflows place kind)) = overflow_in_test names place kind

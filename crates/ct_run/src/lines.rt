@@ -1,0 +1,148 @@
+// The lines that `check` gives out.
+ghost use Rattle.std.specs.Prelude.{◌≡◌, ◌++◌, IfOk, OnOk};
+ghost use Rattle.ct_run.specs.Lines as spec;
+ghost use Rattle.ct_run.specs.Output.{output_of};
+
+use crate::output::Output;
+use crate::status::Outcome;
+use ct_cert::{CheckFault, Place, Verdict};
+use ct_io::NoMemory;
+use ct_mono::Kind;
+use ct_ore::Algebra;
+use std::alloc::Global;
+
+/// The answer to a text of a form that is not read.
+pub(crate) fn not_yet(alloc: Global) -> Result<Output, NoMemory>
+    ensures value { IfOk result (λ output. output_of output ≡ spec.not_yet) }
+{
+    Ok(Output {
+        outcome: Outcome::BadInput,
+        text: Vec::from_slice(alloc, b"bad input NotYet\n")?,
+    })
+}
+
+/// An expression of the problem overflows.
+#[tactic(auto, unfolding(crate::specs::Lines::overflow_in_setup))]
+pub(crate) fn overflow_in_setup(alloc: Global, kind: Kind) -> Result<Output, NoMemory>
+    ensures value { IfOk result (λ output. output_of output ≡ spec.overflow_in_setup kind) }
+{
+    let text = Vec::from_slice(alloc, b"overflow setup input ")?;
+    overflow_line(text, kind)
+}
+
+/// An expression of the report overflows.
+#[tactic(auto, unfolding(crate::specs::Lines::overflow_in_report))]
+pub(crate) fn overflow_in_report(alloc: Global, kind: Kind) -> Result<Output, NoMemory>
+    ensures value { IfOk result (λ output. output_of output ≡ spec.overflow_in_report kind) }
+{
+    let text = Vec::from_slice(alloc, b"overflow check input ")?;
+    overflow_line(text, kind)
+}
+
+/// All tests of the report pass.
+pub(crate) fn yes(alloc: Global) -> Result<Output, NoMemory>
+    ensures value { IfOk result (λ output. output_of output ≡ spec.yes_line) }
+{
+    Ok(Output {
+        outcome: Outcome::Done,
+        text: Vec::from_slice(alloc, b"yes found 0\n")?,
+    })
+}
+
+/// The test at this place is false.
+#[tactic(auto, unfolding(crate::specs::Lines::no_line))]
+pub(crate) fn no(alloc: Global, algebra: &Algebra, place: Place) -> Result<Output, NoMemory>
+    ensures value { IfOk result (λ output. output_of output ≡ spec.no_line algebra.now place) }
+{
+    let mut text = Vec::from_slice(alloc, b"no ")?;
+    append_place(&mut text, algebra, place)?;
+    append(&mut text, b"\n")?;
+    Ok(Output {
+        outcome: Outcome::CheckNo,
+        text,
+    })
+}
+
+/// The test at this place overflows.
+#[tactic(auto, unfolding(crate::specs::Lines::overflow_in_test))]
+pub(crate) fn overflow_in_test(
+    alloc: Global,
+    algebra: &Algebra,
+    place: Place,
+    kind: Kind,
+) -> Result<Output, NoMemory>
+    ensures value { IfOk result (λ output. output_of output ≡ spec.overflow_in_test algebra.now place kind) }
+{
+    let mut text = Vec::from_slice(alloc, b"overflow check ")?;
+    append_place(&mut text, algebra, place)?;
+    append(&mut text, b" ")?;
+    overflow_line(text, kind)
+}
+
+// The line that begins with a text and ends with a kind.
+fn overflow_line(text: Vec<u8>, kind: Kind) -> Result<Output, NoMemory>
+    ensures { IfOk result (λ output. output_of output ≡ spec.overflow_line text.items kind) }
+{
+    let mut text = text;
+    append(&mut text, kind_text(kind))?;
+    append(&mut text, b"\n")?;
+    Ok(Output {
+        outcome: Outcome::Overflow,
+        text,
+    })
+}
+
+#[tactic(auto, unfolding(crate::specs::Lines::kind_text))]
+fn kind_text(kind: Kind) -> &'static [u8]
+    ensures { result.now ≡ spec.kind_text kind }
+{
+    match kind {
+        Kind::Degree => b"degree",
+        Kind::Terms => b"terms",
+        Kind::Number => b"number",
+        Kind::Size => b"size",
+    }
+}
+
+#[tactic(auto, unfolding(crate::specs::Lines::place_text))]
+fn append_place(out: &mut Vec<u8>, algebra: &Algebra, place: Place) -> Result<(), NoMemory>
+    ensures { OnOk result (out.new.items ≡ out.old.items ++ spec.place_text algebra.now place) }
+{
+    match place {
+        Place::Found => append(out, b"found"),
+        Place::Telescoper => append(out, b"telescoper"),
+        Place::Scale => append(out, b"scale"),
+        Place::Denominator(i) => append_with_name(out, b"denominator ", algebra, i),
+        Place::Part(i) => append_with_name(out, b"part ", algebra, i),
+        Place::Identity => append(out, b"identity"),
+    }
+}
+
+fn append_with_name(
+    out: &mut Vec<u8>,
+    text: &[u8],
+    algebra: &Algebra,
+    i: u8,
+) -> Result<(), NoMemory>
+    ensures { OnOk result (out.new.items ≡ out.old.items ++ (text.now ++ spec.name_text algebra.now i)) }
+{
+    append(out, text)?;
+    append_name(out, algebra, i)
+}
+
+// A name's text; nothing past the last name.
+fn append_name(out: &mut Vec<u8>, algebra: &Algebra, i: u8) -> Result<(), NoMemory>
+    ensures { OnOk result (out.new.items ≡ out.old.items ++ spec.name_text algebra.now i) }
+{
+    if i < algebra.count() {
+        append(out, algebra.info(i).text.as_bytes())
+    } else {
+        Ok(())
+    }
+}
+
+fn append(out: &mut Vec<u8>, text: &[u8]) -> Result<(), NoMemory>
+    ensures { OnOk result (out.new.items ≡ out.old.items ++ text.now) }
+{
+    out.extend_from_slice(text)
+}
