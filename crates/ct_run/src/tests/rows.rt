@@ -2,7 +2,9 @@
 use crate::tests::{sink, words};
 use crate::{MemSource, NoGate, NoMemory, run};
 use std::alloc::Global;
+use std::process::Abort;
 use std::test::Fail;
+use std::thread::Threads;
 
 /// A sum whose summand doesn't depend on k.
 const THIN: [&str; 18] = [
@@ -162,30 +164,32 @@ fn text_of(alloc: Global, lines: &[&str], at: usize, new: &str) -> Result<Vec<u8
     Ok(text)
 }
 
-#[test]
-fn each_thin_text_has_its_answer(rt: HostRuntime) -> Result<(), Fail> {
-    let alloc = rt.alloc();
+/// Runs `check` on the text of each row, read and written by pieces, and compares status and line.
+fn each_has_its_answer(
+    rt: &(impl Threads + Sync + Abort),
+    alloc: Global,
+    lines: &[&str],
+    rows: &[(usize, &str, u8, &str)],
+    piece: usize,
+) -> Result<(), Fail> {
     let words = words(alloc, &["check"])?;
-    for (at, new, status, line) in THIN_ROWS {
-        let mut source = MemSource::new(text_of(alloc, &THIN, at, new)?, 100, Vec::new(alloc));
+    for (at, new, status, line) in rows {
+        let text = text_of(alloc, lines, *at, new)?;
+        let mut source = MemSource::new(text, piece, Vec::new(alloc));
         let mut sink = sink(alloc, 100, &[])?;
-        let ended = run(&rt, alloc, &words, &mut source, &mut sink, &NoGate);
-        assert_eq!(rt; ended.number(), status, "{new}");
+        let ended = run(rt, alloc, &words, &mut source, &mut sink, &NoGate);
+        assert_eq!(rt; ended.number(), *status, "{new}");
         assert_eq!(rt; sink.written(), line.as_bytes(), "{new}");
     }
     Ok(())
 }
 
 #[test]
+fn each_thin_text_has_its_answer(rt: HostRuntime) -> Result<(), Fail> {
+    each_has_its_answer(&rt, rt.alloc(), &THIN, &THIN_ROWS, 100)
+}
+
+#[test]
 fn each_double_sum_has_its_answer(rt: HostRuntime) -> Result<(), Fail> {
-    let alloc = rt.alloc();
-    let words = words(alloc, &["check"])?;
-    for (at, new, status, line) in DOUBLE_ROWS {
-        let mut source = MemSource::new(text_of(alloc, &DOUBLE, at, new)?, 7, Vec::new(alloc));
-        let mut sink = sink(alloc, 100, &[])?;
-        let ended = run(&rt, alloc, &words, &mut source, &mut sink, &NoGate);
-        assert_eq!(rt; ended.number(), status, "{new}");
-        assert_eq!(rt; sink.written(), line.as_bytes(), "{new}");
-    }
-    Ok(())
+    each_has_its_answer(&rt, rt.alloc(), &DOUBLE, &DOUBLE_ROWS, 7)
 }
