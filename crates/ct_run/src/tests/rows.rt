@@ -1,4 +1,6 @@
 // Whole runs on reports: a line of a text is replaced by another, and the answer compared.
+ghost use Rattle.std.specs.Prelude.{◌<◌};
+
 use crate::tests::{sink, words};
 use crate::{MemSource, NoGate, NoMemory, run};
 use std::alloc::Global;
@@ -171,7 +173,9 @@ fn each_has_its_answer(
     lines: &[&str],
     rows: &[(usize, &str, u8, &str)],
     piece: usize,
-) -> Result<(), Fail> {
+) -> Result<(), Fail>
+    requires { 0 < piece }
+{
     let words = words(alloc, &["check"])?;
     for (at, new, status, line) in rows {
         let text = text_of(alloc, lines, *at, new)?;
