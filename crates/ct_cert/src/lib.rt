@@ -12,6 +12,8 @@ mod arithmetic;
 mod calls;
 mod freedom;
 mod place;
+#[cfg(test)]
+mod tests;
 mod tests_in_order;
 
 pub use calls::check_found;
