@@ -10,6 +10,8 @@
 
 pub mod laws;
 mod lexer;
+#[cfg(test)]
+mod tests;
 mod token;
 
 pub use lexer::{Scan, scan_text};
