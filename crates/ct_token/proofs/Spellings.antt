@@ -79,7 +79,7 @@ sign_is b bs letter digit dots printable = record {
     alone [] dot none = tt
     alone (c ∷ cs) dot none = rw dot at none
 
-line_end_is : (b : ℕ) (bs : List ℕ) → not (line_end_len (b ∷ bs) == 0) ≡ true → IsPiece LineEnd (line_end_len (b ∷ bs)) (b ∷ bs)
+pub line_end_is : (b : ℕ) (bs : List ℕ) → not (line_end_len (b ∷ bs) == 0) ≡ true → IsPiece LineEnd (line_end_len (b ∷ bs)) (b ∷ bs)
 line_end_is b [] e = by (b == 10) refl e
   where
     by : (feed : Bool) → (b == 10) ≡ feed → not (cond feed 1 0 == 0) ≡ true → IsPiece LineEnd (cond feed 1 0) (b ∷ [])

@@ -1,3 +1,4 @@
 pub mod Lexical
 pub mod Pieces
 pub mod Lexing
+pub mod Cutting
