@@ -5,7 +5,7 @@
 //!
 //! Read `specs/Lexical.antt` first: `scan_of` is the lexical grammar, as one pass over the bytes. What a
 //! word or a number means is left to the layers above. `specs/Lexing.antt` says what the tokens of a
-//! text are, without the pass.
+//! text are, without the pass, and `specs/Cutting.antt` how they and the gaps between them make it up.
 #![tactic(auto)]
 
 pub mod laws;
