@@ -19,3 +19,6 @@ pub mod PairMeasureLaws
 pub mod WayPositive
 pub mod ProductBounds
 pub mod ProductRules
+pub mod PairSums
+pub mod Multiples
+pub mod Expansion

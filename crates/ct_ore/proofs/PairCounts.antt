@@ -34,6 +34,11 @@ sum_by-scaled c f (x ∷ xs) =
     parted : (c m n : ℕ) → c * (m + n) ≡ c * m + c * n
     parted c m n = omega arith
 
+pub scaled-sum : {X : Type 0} (f : X → ℕ) (r : ℕ) (xs : List X) → sum_by (λ x. f x * r) xs ≡ sum_by f xs * r
+scaled-sum f r [] = omega arith
+scaled-sum f r (x ∷ xs) =
+    sum_by-cons (λ x. f x * r) x xs ∙ omega (arith, scaled-sum f r xs, ap (λ n. n * r) (sum_by-cons f x xs))
+
 -- a list whose terms all count the same
 sum_by-listed_same :
     {X : Type 0} (f : X → ℕ) (c : ℕ) (g : ℕ → X) → ((j : ℕ) → f (g j) ≡ c) → (n : ℕ) → sum_by f (listed n g) ≡ c * n

@@ -20,7 +20,7 @@ use Rattle.ct_ore.specs.declared.op.OpTerm.{OpTerm}
 use Rattle.ct_ore.specs.Terms.{op_entries}
 use Rattle.ct_ore.specs.Lists.{IsPartsOf}
 use Rattle.ct_ore.specs.PairMeasures.{name_measure, pair_measure, measure_of_row, measure_of_pairs}
-use Rattle.ct_ore.specs.Measures.{greatest, product_overflow, coefficient_degree, order_of, product_count, product_norm}
+use Rattle.ct_ore.specs.Measures.{all_terms, coefficient_terms, greatest, product_overflow, coefficient_degree, order_of, product_count, product_norm}
 use Rattle.ct_ore.specs.Bounds.{IsCapped, IsSumming}
 use Rattle.ct_ore.proofs.WayLaws.{power_positive, product_positive, way-le-weight}
 
@@ -36,6 +36,9 @@ name_measure_positive false Shift k e = by (ltb 0 k)
 name_measure_positive false Derive k e = omega arith
 name_measure_positive false Still k e = lit< tt
 
+pub summing_start : (all : ℕ) → IsSumming all all (Some 0)
+summing_start all = record { done = 0; capped = (refl, omega arith); rest = omega arith }
+
 -- one measure more
 pub summing_more :
     {all before : ℕ} {r s : Option ℕ} (p : Option ℕ) (x left : ℕ) → before ≡ x + left → IsSumming all before r → IsCapped x p →
@@ -45,6 +48,10 @@ summing_more p x left same summing one add = record {
   capped = add summing.done x summing.capped one;
   rest = omega (arith, summing.rest, same);
 }
+
+pub summing_ended : {all left : ℕ} {r : Option ℕ} → IsSumming all left r → left ≡ 0 → IsCapped all r
+summing_ended {all} {left} {r} summing none =
+    let same : summing.done ≡ all = omega (arith, summing.rest, none) in subst (λ v. IsCapped v r) same summing.capped
 
 -- ---- an exponent is no larger than the total
 
@@ -146,16 +153,16 @@ unfolding order_of
 order_is p ts same = ap (λ es. greatest (map (λ (e : Mono × Polynomial). total e.0) es)) same
 
 pub count_is :
-    (a : Name → Action) {p q : Operator} (ps qs : List CoefficientTerm) → IsPartsOf p ps → IsPartsOf q qs →
-    measure_of_pairs a false ps qs ≡ product_count a p q
-unfolding product_count
-count_is a ps qs mine its = ap₂ (measure_of_pairs a false) mine.list its.list
+    (a : Name → Action) (p q : Operator) (ps : List OpTerm) (qs : List CoefficientTerm) → op_entries ps ≡ p.terms → IsPartsOf q qs →
+    measure_of_pairs a false (all_terms (op_entries ps)) qs ≡ product_count a p q
+unfolding product_count coefficient_terms
+count_is a p q ps qs mine its = ap₂ (measure_of_pairs a false) (ap all_terms mine) its.list
 
 pub norm_is :
-    (a : Name → Action) {p q : Operator} (ps qs : List CoefficientTerm) → IsPartsOf p ps → IsPartsOf q qs →
-    measure_of_pairs a true ps qs ≡ product_norm a p q
-unfolding product_norm
-norm_is a ps qs mine its = ap₂ (measure_of_pairs a true) mine.list its.list
+    (a : Name → Action) (p q : Operator) (ps : List OpTerm) (qs : List CoefficientTerm) → op_entries ps ≡ p.terms → IsPartsOf q qs →
+    measure_of_pairs a true (all_terms (op_entries ps)) qs ≡ product_norm a p q
+unfolding product_norm coefficient_terms
+norm_is a p q ps qs mine its = ap₂ (measure_of_pairs a true) (ap all_terms mine) its.list
 
 -- each pair makes a term at least
 row_counts :

@@ -67,7 +67,7 @@ module _ (a : Name → Action) where
       sum_of_parts-cons _ (multiplied n x ts) ∙ ap₂ G.◌+◌ (multiplied-term n x t) (multiplied-value n x ts)
       ∙ sym (ap (multiple a (term n x)) (sum_of_parts-cons t ts) ∙ (multiple_hom (term n x)).sums _ _)
 
-  total-multiplied :
+  pub total-multiplied :
       (us : List (Mono × ℤ)) (ts : List CoefficientTerm) →
       sum_of_parts (multiplied_by us ts) ≡ total G (λ n x. multiple a (term n x) (sum_of_parts ts)) us
   total-multiplied [] ts = sum_of_parts-none

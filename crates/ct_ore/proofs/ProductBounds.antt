@@ -1,13 +1,13 @@
 -- Totals and sizes on the way of a product: each step stays within the measures of the whole.
--- Main lemmas `can_raise_rest`, `way_fits`, `can_expand`, `can_scale`, `can_multiply_rest`. Cited by the loops that make the terms.
-use Rattle.std.proofs.Common.{◌≡◌, refl, ℕ, zero, suc, ◌+◌, ◌-◌, ◌*◌, ◌<◌, ◌≤◌, ℤ, pos, ◌*ℤ◌, nat_abs, List, [], ◌∷◌, ◌++◌, length, sum_by, sym, ◌∙◌, ap, subst, arith, eq-or-lt_of_le, ◌⊎◌, inl, inr, lit<}
-use Rattle.std.proofs.lemmas.List.Sums.{sum_by-cons, sum_by-append, sum_by_push}
+-- Main lemmas `can_raise_rest`, `way_fits`, `can_expand`, `can_scale`, `can_multiply_parts`. Cited by the code that makes the terms.
+use Rattle.std.proofs.Common.{◌≡◌, ℕ, zero, suc, ◌+◌, ◌-◌, ◌*◌, ◌<◌, ◌≤◌, ℤ, pos, ◌*ℤ◌, nat_abs, List, [], ◌∷◌, ◌++◌, sym, ◌∙◌, ap, subst, arith, eq-or-lt_of_le, mul-le-mul_left, ◌⊎◌, inl, inr, lit<}
+use Rattle.std.proofs.lemmas.List.Sums.{sum_by-append, sum_by_push}
 use Rattle.std.proofs.lemmas.Int.{unsigned_abs-mul}
 use Rattle.ct_algebra.specs.Monomial.{Mono, exp, total}
 use Rattle.ct_algebra.specs.Names.{Name, x0, x1, x2, x3, x4, x5}
-use Rattle.ct_algebra.specs.Terms.{EachTerm}
+use Rattle.ct_algebra.specs.Terms.{EachTerm, EachTerm-weaker}
 use Rattle.ct_algebra.specs.Actions.{Action, Shift, Derive, Still}
-use Rattle.ct_algebra.specs.Polynomial.{Polynomial, degree, degree_greatest, norm, norm_of}
+use Rattle.ct_algebra.specs.Polynomial.{Polynomial, degree_greatest, norm, norm_of}
 use Rattle.ct_mono.specs.Limits.{largest_degree, largest_norm}
 use Rattle.ct_mono.proofs.ExponentLaws.{total-with_exponent}
 use Rattle.ct_ore.specs.declared.coefficient_term.CoefficientTerm.{CoefficientTerm}
@@ -15,7 +15,12 @@ use Rattle.ct_ore.specs.CoefficientTerms.{size_of}
 use Rattle.ct_ore.specs.PairTerms.{listed, how_many, ways, symbols_left, lowered_term, raised_term, raised, expanded, multiplied_by, product_terms}
 use Rattle.std.proofs.Common.{Option, Some, None}
 use Rattle.std.specs.Option.{unwrap_or}
-use Rattle.ct_ore.specs.Bounds.{IsCapped, Within, EachWithin, CanRaise, CanExpand, CanScale, EachScales, CanMultiply}
+use Rattle.ct_ore.specs.Bounds.{IsCapped, Within, EachWithin, CanRaise, CanExpand, CanScale, HasRoom, CanMultiply}
+use Rattle.ct_ore.specs.PairMeasures.{HasNumbers}
+use Rattle.ct_ore.specs.Lists.{IsSorted}
+use Rattle.ct_ore.proofs.Expansion.{product_parts}
+use Rattle.ct_ore.proofs.Multiples.{each_parts}
+use Rattle.ct_ore.proofs.PairCounts.{scaled-sum}
 use Rattle.ct_ore.proofs.PairMeasureLaws.{six_total}
 use Rattle.ct_ore.proofs.ProductMeasures.{EachIsWithin, each_is_smaller, size_of-multiplied_by}
 use Rattle.ct_ore.proofs.WayLaws.{product_positive}
@@ -34,6 +39,10 @@ pub within-weaker : (b d b' d' : ℕ) → b ≤ b' → d ≤ d' → (xs : List C
 within-weaker b d b' d' p q [] h = tt
 within-weaker b d b' d' p q (x ∷ xs) h =
     (record { symbols = omega (arith, h.0.symbols); names = omega (arith, h.0.names); some = h.0.some }, within-weaker b d b' d' p q xs h.1)
+
+pub have_numbers : (b d : ℕ) (ts : List CoefficientTerm) → EachWithin b d ts → HasNumbers ts
+have_numbers b d [] h = tt
+have_numbers b d (t ∷ ts) h = (h.0.some, have_numbers b d ts h.1)
 
 within-listed :
     (b d n : ℕ) (f : ℕ → CoefficientTerm) → ((j : ℕ) → j < n → Within b d (f j)) → EachWithin b d (listed n f)
@@ -111,27 +120,6 @@ way_fits t i k u j can below =
     larger zero w some h = absurd (omega arith)
     larger (suc n) w some h = omega arith
 
--- ---- multiplying
-
-pub can_scale_head :
-    {n : Mono} {x : ℤ} {ts : List CoefficientTerm} (t : CoefficientTerm) (more : List CoefficientTerm) → ts ≡ t ∷ more →
-    CanScale n x ts → (total n + total t.names ≤ largest_degree) × (nat_abs x * nat_abs t.number ≤ largest_norm)
-can_scale_head {n} {x} t more same can = (
-  omega (arith, can.room, (subst (EachWithin can.order can.names) same can.each).0.names),
-  omega (arith, can.small, ap (λ us. nat_abs x * size_of us) same, ap (λ s. nat_abs x * s) (sum_by-cons size t more)),
-)
-
-pub can_scale_rest :
-    {n : Mono} {x : ℤ} {ts : List CoefficientTerm} (t : CoefficientTerm) (more : List CoefficientTerm) → ts ≡ t ∷ more →
-    CanScale n x ts → CanScale n x more
-can_scale_rest {n} {x} t more same can = record {
-  names = can.names;
-  order = can.order;
-  room = can.room;
-  each = (subst (EachWithin can.order can.names) same can.each).1;
-  small = omega (arith, can.small, ap (λ us. nat_abs x * size_of us) same, ap (λ s. nat_abs x * s) (sum_by-cons size t more));
-}
-
 -- ---- a product of symbols, name after name
 
 module _ (a : Name → Action) (m : Mono) (ts : List CoefficientTerm) where
@@ -199,12 +187,6 @@ module _ (a : Name → Action) (m : Mono) (ts : List CoefficientTerm) where
 
 -- ---- one term of the left factor after the other
 
-scaled-norm : (us : List (Mono × ℤ)) (s : ℕ) → sum_by (λ u. nat_abs u.1 * s) us ≡ norm_of us * s
-scaled-norm [] s = omega arith
-scaled-norm (u ∷ us) s =
-    sum_by-cons (λ (u : Mono × ℤ). nat_abs u.1 * s) u us
-    ∙ omega (arith, scaled-norm us s, ap (λ n. n * s) (sum_by-cons (λ (u : Mono × ℤ). nat_abs u.1) u us))
-
 at_least : (n s : ℕ) → 0 < n → s ≤ n * s
 at_least zero s some = absurd (omega arith)
 at_least (suc n) s some = omega arith
@@ -214,7 +196,7 @@ module _ (a : Name → Action) (e : Mono × Polynomial) (es : List (Mono × Poly
   size-parts = omega (arith, can.small, sum_by-append size (multiplied_by e.1.terms (expanded a e.0 ts)) (product_terms a es ts))
 
   size-scaled : norm_of e.1.terms * size_of (expanded a e.0 ts) ≤ largest_norm
-  size-scaled = omega (arith, size-parts, size_of-multiplied_by e.1.terms (expanded a e.0 ts), scaled-norm e.1.terms (size_of (expanded a e.0 ts)))
+  size-scaled = omega (arith, size-parts, size_of-multiplied_by e.1.terms (expanded a e.0 ts), scaled-sum (λ (u : Mono × ℤ). nat_abs u.1) (size_of (expanded a e.0 ts)) e.1.terms)
 
   pub can_expand : CanExpand a e.0 ts
   unfolding norm
@@ -225,40 +207,34 @@ module _ (a : Name → Action) (e : Mono × Polynomial) (es : List (Mono × Poly
     small = omega (arith, size-scaled, at_least (norm_of e.1.terms) (size_of (expanded a e.0 ts)) can.rooms.0.some);
   }
 
-  pub can_scale : EachScales e.1.terms (expanded a e.0 ts)
-  can_scale = go e.1.terms (degree_greatest e.1) size-scaled
-    where
-      go :
-          (us : List (Mono × ℤ)) → EachTerm (λ n x. total n ≤ degree e.1) us →
-          norm_of us * size_of (expanded a e.0 ts) ≤ largest_norm → EachScales us (expanded a e.0 ts)
-      go [] low small = tt
-      go (u ∷ us) low small =
-          let parts : norm_of (u ∷ us) * size_of (expanded a e.0 ts) ≡ (nat_abs u.1 + norm_of us) * size_of (expanded a e.0 ts) = ap (λ n. n * size_of (expanded a e.0 ts)) (sum_by-cons (λ (u : Mono × ℤ). nat_abs u.1) u us) in (
-            record {
-              names = can.names;
-              order = can.order + total e.0;
-              room = omega (arith, low.0, can.rooms.0.degrees);
-              each = within-expanded a e.0 ts can.order can.names can.each;
-              small = omega (arith, small, parts);
-            },
-            go us low.1 (omega (arith, small, parts)),
-          )
+  pub expanded_small : size_of (expanded a e.0 ts) ≤ largest_norm
+  expanded_small = can_expand.small
 
-  pub can_multiply_rest : CanMultiply a es ts
-  can_multiply_rest = record {
-    order = can.order;
+  pub expanded_numbers : HasNumbers (expanded a e.0 ts)
+  expanded_numbers = have_numbers (can.order + total e.0) can.names (expanded a e.0 ts) (within-expanded a e.0 ts can.order can.names can.each)
+
+  pub can_scale : {vs : List CoefficientTerm} → IsSorted (expanded a e.0 ts) vs → CanScale e.1.terms vs
+  can_scale {vs} made = record {
     names = can.names;
-    within = can.within;
-    rooms = can.rooms.1;
-    each = can.each;
-    small = omega (arith, size-parts);
+    order = can.order + total e.0;
+    rooms = EachTerm-weaker (λ n x low. omega (arith, low, can.rooms.0.degrees)) e.1.terms (degree_greatest e.1);
+    falls = e.1.canonical;
+    each = made.within (can.order + total e.0) can.names (within-expanded a e.0 ts can.order can.names can.each);
+    written = made.sum.written;
+    small = omega (arith, size-scaled, mul-le-mul_left (norm_of e.1.terms) made.sum.small);
   }
 
--- ---- what loops read
+pub can_multiply_parts :
+    {a : Name → Action} {es : List (Mono × Polynomial)} {ts : List CoefficientTerm} (xs ys : List (Mono × Polynomial)) →
+    es ≡ xs ++ ys → CanMultiply a es ts → CanMultiply a xs ts × CanMultiply a ys ts
+can_multiply_parts {a} {es} {ts} xs ys whole can =
+    let rooms = each_parts (HasRoom can.order can.names) xs ys (subst (EachTerm (HasRoom can.order can.names)) whole can.rooms) in
+    let both : size_of (product_terms a es ts) ≡ size_of (product_terms a xs ts) + size_of (product_terms a ys ts) = ap size_of (product_parts a ts xs ys whole) ∙ sum_by-append size (product_terms a xs ts) (product_terms a ys ts) in (
+      record { order = can.order; names = can.names; within = can.within; rooms = rooms.0; each = can.each; written = can.written; small = omega (arith, can.small, both) },
+      record { order = can.order; names = can.names; within = can.within; rooms = rooms.1; each = can.each; written = can.written; small = omega (arith, can.small, both) },
+    )
 
-pub no_length : (ts : List CoefficientTerm) → length ts ≡ 0 → ts ≡ []
-no_length [] none = refl
-no_length (t ∷ ts) none = absurd (omega arith)
+-- ---- what the loop reads
 
 pub capped_value : (v : ℕ) (r : Option ℕ) → IsCapped v r → v ≤ largest_norm → unwrap_or r 0 ≡ v
 capped_value v None over within = absurd (omega arith)

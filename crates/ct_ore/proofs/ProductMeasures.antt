@@ -179,7 +179,7 @@ sum_by-map f g [] = refl
 sum_by-map f g (x ∷ xs) =
     sum_by-cons f (g x) (map g xs) ∙ ap (λ n. f (g x) + n) (sum_by-map f g xs) ∙ sym (sum_by-cons (λ x. f (g x)) x xs)
 
-sum_by-all_terms :
+pub sum_by-all_terms :
     (f : CoefficientTerm → ℕ) (es : List (Mono × Polynomial)) →
     sum_by f (all_terms es) ≡ sum_by (λ e. sum_by (λ u. f (record { symbols = e.0; names = u.0; number = u.1 })) e.1.terms) es
 sum_by-all_terms f es =

@@ -1,11 +1,11 @@
 -- A product that no rule refuses: its terms can be made, and what they add up to is the product.
 -- Main lemmas `none_fits` (what holds where no rule is broken), `can_multiply`, `answers_value`. Cited by the product of operators.
-use Rattle.std.proofs.Common.{◌≡◌, ◌≢◌, refl, ℕ, zero, suc, ◌+◌, ◌*◌, ◌<◌, ◌≤◌, cond, Bool, true, false, ℤ, pos, negsuc, nat_abs, List, [], ◌∷◌, ◌++◌, map, length, sym, ◌∙◌, ap, ap₂, subst, arith, Some, None, Option, Ok, Err, T, ltb-false, IsTrue}
+use Rattle.std.proofs.Common.{◌≡◌, ◌≢◌, refl, ℕ, ◌+◌, ◌*◌, ◌<◌, ◌≤◌, cond, Bool, true, false, ℤ, nat_abs, List, [], ◌∷◌, ◌++◌, map, length, sym, ◌∙◌, ap, ap₂, subst, arith, Some, None, Option, Ok, Err, T, ltb-false, IsTrue}
 use Rattle.std.proofs.lemmas.List.Sums.{sum_by-cons}
 use Rattle.ct_algebra.specs.Group.{none_added}
 use Rattle.ct_algebra.specs.Terms.{EachTerm, IsCanonical}
 use Rattle.ct_algebra.specs.Sums.{has_none, same_terms}
-use Rattle.ct_algebra.specs.WholeNumbers.{int_group, int_is_zero}
+use Rattle.ct_algebra.specs.WholeNumbers.{int_group}
 use Rattle.ct_algebra.specs.Monomial.{Mono, total, monomials}
 use Rattle.ct_algebra.specs.Names.{Name}
 use Rattle.ct_algebra.specs.Actions.{Action}
@@ -21,12 +21,13 @@ use Rattle.ct_ore.specs.declared.coefficient_term.CoefficientTerm.{CoefficientTe
 use Rattle.ct_ore.specs.CoefficientTerms.{sum_of_parts, size_of}
 use Rattle.ct_ore.specs.Measures.{greatest, row_of, all_terms, coefficient_terms, coefficient_degree, order_of, product_count, product_norm, product_overflow, checked_product}
 use Rattle.ct_ore.specs.PairTerms.{product_terms}
-use Rattle.ct_ore.specs.PairMeasures.{HasNumbers}
 use Rattle.ct_ore.specs.Bounds.{EachWithin, HasRoom, CanMultiply}
-use Rattle.ct_ore.specs.Lists.{Fits, IsSum, IsPartsOf}
+use Rattle.ct_ore.specs.Lists.{Fits, IsSum}
 use Rattle.ct_ore.proofs.PairMeasureLaws.{begin, none_of_zero, nonzero_product}
 use Rattle.ct_ore.proofs.PairProduct.{product-value}
 use Rattle.ct_ore.proofs.ProductMeasures.{product_count-is, product_norm-is}
+use Rattle.ct_ore.proofs.SortedSums.{some_number}
+use Rattle.ct_ore.proofs.WrittenForm.{coefficients_written}
 use Rattle.ct_ore.proofs.WrittenOperators.{terms-no_operator}
 
 -- ---- a factor that is zero
@@ -83,11 +84,6 @@ none_fits a p q left right none =
 
 -- ---- the terms of both factors
 
-some_number : (z : ℤ) → T (cond (int_is_zero z) false true) → 0 < nat_abs z
-some_number (pos zero) h = absurd h
-some_number (pos (suc n)) h = omega arith
-some_number (negsuc n) h = omega arith
-
 some_norm :
     (us : List (Mono × ℤ)) → IsCanonical monomials int_group us → T (cond (has_none monomials int_group us) false true) →
     0 < norm_of us
@@ -122,14 +118,6 @@ pub coefficients_within : (p : Operator) → EachWithin (order_of p) (coefficien
 unfolding order_of coefficient_degree coefficient_terms
 coefficients_within p = all_within _ _ p.terms (omega arith) (omega arith)
 
-have_numbers : (b d : ℕ) (ts : List CoefficientTerm) → EachWithin b d ts → HasNumbers ts
-have_numbers b d [] h = tt
-have_numbers b d (t ∷ ts) h = (h.0.some, have_numbers b d ts h.1)
-
-pub parts_have_numbers : (p : Operator) (ts : List CoefficientTerm) → IsPartsOf p ts → HasNumbers ts
-parts_have_numbers p ts parts =
-    subst HasNumbers (sym parts.list) (have_numbers (order_of p) (coefficient_degree p) (coefficient_terms p) (coefficients_within p))
-
 rooms :
     (b d order names : ℕ) → b + order ≤ largest_degree → d + names ≤ largest_degree → (es : List (Mono × Polynomial)) →
     IsCanonical monomials polys.group es → greatest (map (λ (e : Mono × Polynomial). total e.0) es) ≤ b →
@@ -149,34 +137,29 @@ can_multiply a p q ts list fits = subst (CanMultiply a p.terms) (sym list) (reco
   within = omega (arith, fits.degrees);
   rooms = rooms (order_of p) (coefficient_degree p) (order_of q) (coefficient_degree q) fits.orders fits.degrees p.terms p.canonical (omega arith) (omega arith);
   each = coefficients_within q;
+  written = coefficients_written q;
   small = omega (arith, fits.norm, product_norm-is a p q);
 })
 
--- ---- the sorted terms are the product
+-- ---- a list with the sum of the terms is the product
 
-pub terms_small :
-    (a : Name → Action) (p q : Operator) (es : List (Mono × Polynomial)) (ts us : List CoefficientTerm) → es ≡ p.terms →
-    ts ≡ coefficient_terms q → us ≡ product_terms a es ts → FitsProduct a p q → size_of us ≤ largest_norm
-terms_small a p q es ts us left right made fits =
-    omega (arith, fits.norm, product_norm-is a p q, ap size_of (made ∙ ap₂ (product_terms a) left right))
-
-pub sorted_fits :
-    (a : Name → Action) (p q : Operator) (es : List (Mono × Polynomial)) (ts us vs : List CoefficientTerm) → es ≡ p.terms →
-    ts ≡ coefficient_terms q → us ≡ product_terms a es ts → IsSum us vs → FitsProduct a p q → Fits vs
-sorted_fits a p q es ts us vs left right made sum fits = record {
+pub product_fits :
+    (a : Name → Action) (p q : Operator) (es : List (Mono × Polynomial)) (ts vs : List CoefficientTerm) → es ≡ p.terms →
+    ts ≡ coefficient_terms q → IsSum (product_terms a es ts) vs → FitsProduct a p q → Fits vs
+product_fits a p q es ts vs left right sum fits = record {
   written = sum.written;
-  few = omega (arith, sum.few, fits.count, product_count-is a p q, ap length (made ∙ ap₂ (product_terms a) left right));
-  small = omega (arith, sum.small, terms_small a p q es ts us left right made fits);
+  few = omega (arith, sum.few, fits.count, product_count-is a p q, ap length (ap₂ (product_terms a) left right));
+  small = omega (arith, sum.small, fits.norm, product_norm-is a p q, ap size_of (ap₂ (product_terms a) left right));
 }
 
 pub answers_value :
-    (a : Name → Action) (p q r : Operator) (es : List (Mono × Polynomial)) (ts us vs : List CoefficientTerm) → es ≡ p.terms →
-    ts ≡ coefficient_terms q → us ≡ product_terms a es ts → IsSum us vs → r ≡ sum_of_parts vs →
-    None ≡ product_overflow a p q → checked_product a p q ≡ Ok r
+    (a : Name → Action) (p q r : Operator) (es : List (Mono × Polynomial)) (ts vs : List CoefficientTerm) → es ≡ p.terms →
+    ts ≡ coefficient_terms q → IsSum (product_terms a es ts) vs → r ≡ sum_of_parts vs → None ≡ product_overflow a p q →
+    checked_product a p q ≡ Ok r
 unfolding checked_product verdict
-answers_value a p q r es ts us vs left right made sum value none =
+answers_value a p q r es ts vs left right sum value none =
     ap (λ o. verdict o (product_of a p q)) (sym none)
-    ∙ ap Ok (sym (value ∙ sum.value ∙ ap sum_of_parts (made ∙ ap₂ (product_terms a) left right) ∙ product-value a p q))
+    ∙ ap Ok (sym (value ∙ sum.value ∙ ap sum_of_parts (ap₂ (product_terms a) left right) ∙ product-value a p q))
 
 pub answers_kind :
     (a : Name → Action) (p q : Operator) (k : Kind) → Some k ≡ product_overflow a p q → checked_product a p q ≡ Err k

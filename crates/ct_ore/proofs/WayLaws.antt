@@ -1,6 +1,6 @@
 -- The numbers before the terms of a pair: from one to the next, positive up to the last, and no larger than the weight.
 -- Main lemmas `shift_step`, `derivation_step`, `way-le-weight`, `weight_ends`. Cited by the loops that compute them.
-use Rattle.std.specs.Prelude.{◌≡◌, refl, ℕ, zero, suc, ◌+◌, ◌-◌, ◌*◌, ◌/◌, ◌%◌, ◌^◌, ◌<◌, ◌≤◌, min, ◌⊎◌}
+use Rattle.std.specs.Prelude.{◌≡◌, refl, ℕ, zero, suc, ◌+◌, ◌-◌, ◌*◌, ◌/◌, ◌%◌, ◌^◌, ◌<◌, ◌≤◌, min, eqb, false, ◌⊎◌}
 use Rattle.std.proofs.Common.{sym, ◌∙◌, ap, arith, subst, inl, inr, lit<}
 use Rattle.std.proofs.Math.Nat.{pow-suc, pow-zero}
 use Rattle.std.proofs.lemmas.Nat.{div-add-mod', div-mul-add, le-div}
@@ -128,3 +128,7 @@ way-le-weight k e j = by (within j k)
     by : (j < k + 1) ⊎ (k < j) → choose k j * falling_power e j ≤ ways_below (k + 1) k e
     by (inl l) = way-le-ways (k + 1) k e j l
     by (inr l) = omega (arith, ap (λ x. x * falling_power e j) (choose-past k j l))
+
+pub told_positive : (v : ℕ) → eqb v 0 ≡ false → 0 < v
+told_positive zero told = cc
+told_positive (suc v) told = omega arith

@@ -1,6 +1,6 @@
 -- What a list of terms in code says of the operator that it stands for: its terms and its measures.
 -- Main lemmas `terms_of`, `is_none`, `value_of_terms`. A canonical list is the terms of its operator.
-use Rattle.std.proofs.Common.{◌≡◌, ◌↔◌, refl, List, [], ◌∷◌, length, sym, ◌∙◌, ap, subst, arith}
+use Rattle.std.proofs.Common.{◌≡◌, ◌↔◌, refl, List, [], ◌∷◌, ◌++◌, length, sym, ◌∙◌, ap, subst, arith}
 use Rattle.ct_algebra.specs.Terms.{IsCanonical}
 use Rattle.ct_algebra.specs.Laws.Terms.{same_list, IsCanonical-merged, total-merged, pick-IsAdditive}
 use Rattle.ct_algebra.specs.Sums.{same_terms, sum_of, none}
@@ -45,3 +45,7 @@ is_none {p} ts h value =
     no_entries : (ts : List OpTerm) → op_entries ts ≡ [] → length ts ≡ 0
     no_entries [] e = refl
     no_entries (t ∷ ts) e = cc
+
+pub op_entries-append : (ts us : List OpTerm) → op_entries (ts ++ us) ≡ op_entries ts ++ op_entries us
+op_entries-append [] us = refl
+op_entries-append (t ∷ ts) us = ap (λ es. (t.mono, t.coef) ∷ es) (op_entries-append ts us)

@@ -3,18 +3,19 @@
 --     EachWithin b d ts    in each term symbols of total at most b, names of total at most d, and a number that is not 0
 --     CanRaise             what raising the symbols of a name asks of a list
 --     CanExpand            what a product of symbols asks of one
---     CanScale             what multiplying a list by a term asks of both
+--     CanScale             what multiplying a list by a polynomial asks of both
 --     CanMultiply          what a product asks of the terms of the left factor and the list of the right one
 use Rattle.std.specs.Prelude.{◌≡◌, ℕ, ◌+◌, ◌*◌, ◌<◌, ◌≤◌, nat_abs, List, [], ◌∷◌, MatchOption, ℤ}
 use Rattle.std.proofs.Common.{Option}
-use Rattle.ct_algebra.specs.Monomial.{Mono, total}
+use Rattle.ct_algebra.specs.Monomial.{Mono, monomials, total}
 use Rattle.ct_algebra.specs.Names.{Name}
-use Rattle.ct_algebra.specs.Terms.{EachTerm}
-use Rattle.ct_algebra.specs.Polynomial.{Polynomial, degree, norm}
+use Rattle.ct_algebra.specs.Terms.{EachTerm, IsCanonical}
+use Rattle.ct_algebra.specs.Polynomial.{Polynomial, degree, norm, norm_of}
+use Rattle.ct_algebra.specs.WholeNumbers.{int_group}
 use Rattle.ct_algebra.specs.Actions.{Action}
 use Rattle.ct_mono.specs.Limits.{largest_degree, largest_norm}
 use Rattle.ct_ore.specs.declared.coefficient_term.CoefficientTerm.{CoefficientTerm}
-use Rattle.ct_ore.specs.CoefficientTerms.{size_of}
+use Rattle.ct_ore.specs.CoefficientTerms.{size_of, IsWritten}
 use Rattle.ct_ore.specs.PairTerms.{raised, expanded, product_terms}
 
 abbrev pub IsCapped : ℕ → Option ℕ → Type 0
@@ -41,15 +42,14 @@ pub record CanExpand (a : Name → Action) (m : Mono) (ts : List CoefficientTerm
   pub each : EachWithin order largest_degree ts
   pub small : size_of (expanded a m ts) ≤ largest_norm
 
-pub record CanScale (n : Mono) (x : ℤ) (ts : List CoefficientTerm) : Type 0 where
+pub record CanScale (us : List (Mono × ℤ)) (ts : List CoefficientTerm) : Type 0 where
   pub names : ℕ
   pub order : ℕ
-  pub room : total n + names ≤ largest_degree
+  pub rooms : EachTerm (λ n x. total n + names ≤ largest_degree) us
+  pub falls : IsCanonical monomials int_group us
   pub each : EachWithin order names ts
-  pub small : nat_abs x * size_of ts ≤ largest_norm
-
-abbrev pub EachScales : List (Mono × ℤ) → List CoefficientTerm → Type 0
-EachScales us ts = EachTerm (λ n x. CanScale n x ts) us
+  pub written : IsWritten ts
+  pub small : norm_of us * size_of ts ≤ largest_norm
 
 -- a sum of measures on the way: what is summed so far, and what is left of all
 pub record IsSumming (all left : ℕ) (r : Option ℕ) : Type 0 where
@@ -69,4 +69,5 @@ pub record CanMultiply (a : Name → Action) (es : List (Mono × Polynomial)) (t
   pub within : names ≤ largest_degree
   pub rooms : EachTerm (HasRoom order names) es
   pub each : EachWithin order names ts
+  pub written : IsWritten ts
   pub small : size_of (product_terms a es ts) ≤ largest_norm

@@ -3,8 +3,9 @@
 --     IsRun m ts run       run is the terms of ts up to the first whose symbols are not m
 --     IsGathering          which terms of the operator are done, and which are left
 --     IsMerging            what is done and what is left of two lists that are merged
---     IsSum                a list in written form with the sum of another, no longer and no larger
-use Rattle.std.specs.Prelude.{◌≡◌, ◌≢◌, ◌+◌, ◌≤◌, ltb, neg_ℤ, None, List, [], ◌∷◌, ◌++◌, length, drop}
+--     IsFront ts n         the first n terms are in written form by themselves, and one is where there are any
+--     IsSum                a list in written form with the sum of another, no longer and no larger; IsSorted  its terms bounded alike
+use Rattle.std.specs.Prelude.{◌≡◌, ◌≢◌, ℕ, ◌+◌, ◌≤◌, min, ltb, neg_ℤ, None, List, [], ◌∷◌, ◌++◌, length, take, drop}
 use Rattle.std.proofs.Common.{Option}
 use Rattle.ct_algebra.specs.Monomial.{Mono}
 use Rattle.ct_algebra.specs.Terms.{merged}
@@ -22,6 +23,7 @@ use Rattle.ct_ore.specs.declared.coefficient_term.CoefficientTerm.{CoefficientTe
 use Rattle.ct_ore.specs.declared.op.OpTerm.{OpTerm}
 use Rattle.ct_ore.specs.Terms.{op_entries}
 use Rattle.ct_ore.specs.CoefficientTerms.{by_parts, keyed, sum_of_parts, IsWritten, size_of}
+use Rattle.ct_ore.specs.Bounds.{EachWithin}
 use Rattle.ct_ore.specs.Measures.{row_of, all_terms, coefficient_terms}
 
 pub record Fits (ts : List CoefficientTerm) : Type 0 where
@@ -50,11 +52,21 @@ pub record IsMerging (ps qs done p q : List CoefficientTerm) : Type 0 where
   pub sizes : size_of done + size_of p + size_of q ≤ size_of ps + size_of qs
   pub lengths : length done + length p + length q ≤ length ps + length qs
 
+pub record IsFront (ts : List CoefficientTerm) (n : ℕ) : Type 0 where
+  pub written : IsWritten (take n ts)
+  pub within : n ≤ length ts
+  pub some : min 1 (length ts) ≤ n
+
 pub record IsSum (ts us : List CoefficientTerm) : Type 0 where
   pub written : IsWritten us
   pub value : sum_of_parts us ≡ sum_of_parts ts
   pub few : length us ≤ length ts
   pub small : size_of us ≤ size_of ts
+
+-- and whose terms are within the bounds that the other's are within
+pub record IsSorted (ts us : List CoefficientTerm) : Type 0 where
+  pub sum : IsSum ts us
+  pub within : (b d : ℕ) → EachWithin b d ts → EachWithin b d us
 
 abbrev pub opposite : CoefficientTerm → CoefficientTerm
 opposite t = record { symbols = t.symbols; names = t.names; number = neg_ℤ t.number }

@@ -4,7 +4,7 @@
 --     ways t k e j           the number before the one that lowers this power by j
 --     raised t i k ts        the terms that k symbols of the name with the place i make of each term of ts
 --     expanded a m ts        the same for a product of symbols m, name after name, the last name first
---     multiplied n x ts      the term x of names n times each term of ts
+--     times_term n x t       the number x and the names n times t;  multiplied n x ts  times each term of ts
 --     product_terms a es ts  the terms of coefficients es times what their symbols make of ts
 -- A shift makes (x + k)^e, a derivation the sum of Leibniz; a name without operator only keeps its symbols.
 use Rattle.std.specs.Prelude.{ℕ, zero, suc, ◌+◌, ◌-◌, ◌*◌, ◌^◌, min, cond, ltb, ℤ, pos, ◌*ℤ◌, List, [], ◌∷◌, ◌++◌, map, flat_map}
@@ -52,8 +52,11 @@ raised t i k ts = flat_map (raised_term t i k) ts
 
 -- ---- products
 
+abbrev pub times_term : Mono → ℤ → CoefficientTerm → CoefficientTerm
+times_term n x t = record { symbols = t.symbols; names = n · t.names; number = x *ℤ t.number }
+
 abbrev pub multiplied : Mono → ℤ → List CoefficientTerm → List CoefficientTerm
-multiplied n x ts = map (λ t. record { symbols = t.symbols; names = n · t.names; number = x *ℤ t.number }) ts
+multiplied n x ts = map (λ t. times_term n x t) ts
 
 abbrev pub multiplied_by : List (Mono × ℤ) → List CoefficientTerm → List CoefficientTerm
 multiplied_by us ts = flat_map (λ u. multiplied u.0 u.1 ts) us

@@ -1,85 +1,103 @@
 // When a product of operators overflows.
-ghost use Rattle.std.specs.Prelude.{◌≡◌, ◌<◌, ◌≤◌, ℕ, length, map, nat_abs, ltb};
+ghost use Rattle.std.specs.Prelude.{◌≡◌, ◌*◌, ◌<◌, ◌≤◌, ℕ, length, map, ltb};
 ghost use Rattle.ct_algebra.specs.Monomial.{exp, total};
-ghost use Rattle.ct_algebra.specs.Names.{name_with, place};
+ghost use Rattle.ct_algebra.specs.Names.{name_with};
 ghost use Rattle.ct_algebra.specs.Polynomial.{degree};
 ghost use Rattle.ct_algebra.specs.Operators.{Operator};
 ghost use Rattle.ct_mono.specs.Limits.{largest_degree, most_terms, largest_norm};
 ghost use Rattle.ct_ore.specs.Naming.{actions_of, action_of};
 ghost use Rattle.ct_ore.specs.Terms.{op_entries};
-ghost use Rattle.ct_ore.specs.Measures.{greatest, product_overflow};
-ghost use Rattle.ct_ore.specs.PairWeights.{over_names};
+ghost use Rattle.ct_ore.specs.CoefficientTerms.{size_of};
+ghost use Rattle.ct_ore.specs.Measures.{all_terms, greatest, product_overflow};
 ghost use Rattle.ct_ore.specs.Bounds.{IsCapped};
 ghost use Rattle.ct_ore.specs.Lists.{IsPartsOf};
-ghost use Rattle.ct_ore.specs.PairMeasures.{HasNumbers, name_measure, pair_measure, measure_of_row, measure_of_pairs};
+ghost use Rattle.ct_ore.specs.PairMeasures.{name_measure, names_measure, term_measure, symbols_measure, coefficient_measure, measure_of_pairs};
 
 use crate::algebra::{Action, Algebra};
 use crate::coefficient_term::CoefficientTerm;
 use crate::op::OpTerm;
+use crate::sum::size_of_parts;
 use crate::ways::{capped_product, capped_sum, derivation_weight, how_many, shift_weight};
 use ct_mono::{Kind, LARGEST_DEGREE, LARGEST_NORM, MOST_TERMS, Monomial};
 use ct_poly::Poly;
 
-// The measure of all pairs: their weight, or else their count.
+// The measure of all pairs: their weight, or else their count. What symbols make of the right factor is measured once for
+// all terms of the coefficient before them.
 fn measure_of_pairs(
     algebra: &Algebra,
     weigh: bool,
-    ps: &[CoefficientTerm],
+    ps: &[OpTerm],
     qs: &[CoefficientTerm],
 ) -> Option<u128>
-    requires first { HasNumbers ps.now }
-    requires second { HasNumbers qs.now }
-    ensures { IsCapped (measure_of_pairs (actions_of algebra.now) weigh ps.now qs.now) result }
+    requires few { length qs.now ≤ most_terms }
+    requires small { size_of qs.now ≤ largest_norm }
+    ensures { IsCapped (measure_of_pairs (actions_of algebra.now) weigh (all_terms (op_entries ps.now)) qs.now) result }
 {
     let mut sum = Some(0);
     let mut rest = ps;
-    'measuring: while let Some((s, more)) = rest.split_first() {
-        let row = measure_of_row(algebra, weigh, s, qs);
+    'measuring: while let Some((p, more)) = rest.split_first() {
+        let made = measure_of_symbols(algebra, weigh, &p.mono, qs);
+        let row = capped_product(measure_of_coefficient(weigh, &p.coef), made);
         sum = capped_sum(sum, row);
         rest = more;
     }
     sum
 }
 
-fn measure_of_row(
+// The norm, or else the count, of a coefficient.
+fn measure_of_coefficient(weigh: bool, p: &Poly) -> Option<u128>
+    ensures { IsCapped (coefficient_measure weigh p.now) result }
+{
+    p.within_limits();
+    Some(if weigh {
+        p.norm()
+    } else {
+        p.terms().len() as u128
+    })
+}
+
+// The measure of what symbols make of all terms.
+fn measure_of_symbols(
     algebra: &Algebra,
     weigh: bool,
-    s: &CoefficientTerm,
+    m: &Monomial,
     qs: &[CoefficientTerm],
 ) -> Option<u128>
-    requires first { 0 < nat_abs s.now.number }
-    requires second { HasNumbers qs.now }
-    ensures { IsCapped (measure_of_row (actions_of algebra.now) weigh s.now qs.now) result }
+    requires few { length qs.now ≤ most_terms }
+    requires small { size_of qs.now ≤ largest_norm }
+    ensures { IsCapped (symbols_measure (actions_of algebra.now) weigh m.now qs.now) result }
 {
+    if m.total() == 0 {
+        return Some(if weigh {
+            size_of_parts(qs)
+        } else {
+            qs.len() as u128
+        });
+    }
     let mut sum = Some(0);
     let mut rest = qs;
     'measuring: while let Some((t, more)) = rest.split_first() {
-        let pair = measure_of_pair(algebra, weigh, s, t);
-        sum = capped_sum(sum, pair);
+        sum = capped_sum(sum, measure_of_term(algebra, weigh, m, t));
         rest = more;
     }
     sum
 }
 
-fn measure_of_pair(
+// The measure of what symbols make of a term.
+fn measure_of_term(
     algebra: &Algebra,
     weigh: bool,
-    s: &CoefficientTerm,
+    m: &Monomial,
     t: &CoefficientTerm,
 ) -> Option<u128>
-    requires first { 0 < nat_abs s.now.number }
-    requires second { 0 < nat_abs t.now.number }
-    ensures { IsCapped (pair_measure (actions_of algebra.now) weigh s.now t.now) result }
+    ensures { IsCapped (term_measure (actions_of algebra.now) weigh m.now t.now) result }
 {
-    let names = measure_of_names(algebra, weigh, &s.symbols, &t.names);
-    if !weigh {
-        return names;
+    let names = measure_of_names(algebra, weigh, m, &t.names);
+    if weigh {
+        capped_product(capped(t.number.unsigned_abs()), names)
+    } else {
+        names
     }
-    let numbers = capped_product(
-        capped(s.number.unsigned_abs()),
-        capped(t.number.unsigned_abs()),
-    );
-    capped_product(numbers, names)
 }
 
 // A number, where it is within the largest norm.
@@ -91,19 +109,33 @@ fn capped(n: u128) -> Option<u128>
 
 // The product over all names.
 fn measure_of_names(algebra: &Algebra, weigh: bool, m: &Monomial, n: &Monomial) -> Option<u128>
-    ensures { IsCapped (over_names (λ i. name_measure weigh (actions_of algebra.now i) (exp m.now (place i)) (exp n.now (place i)))) result }
+    ensures { IsCapped (names_measure (actions_of algebra.now) weigh m.now n.now) result }
 {
-    let n0 = measure_of_name(algebra, weigh, 0, m, n);
-    let n1 = measure_of_name(algebra, weigh, 1, m, n);
-    let n2 = measure_of_name(algebra, weigh, 2, m, n);
-    let n3 = measure_of_name(algebra, weigh, 3, m, n);
-    let n4 = measure_of_name(algebra, weigh, 4, m, n);
-    let n5 = measure_of_name(algebra, weigh, 5, m, n);
-    let two = capped_product(n0, n1);
-    let three = capped_product(two, n2);
-    let four = capped_product(three, n3);
-    let five = capped_product(four, n4);
-    capped_product(five, n5)
+    let one = measure_of_name(algebra, weigh, 0, m, n);
+    let two = times_name(one, algebra, weigh, 1, m, n);
+    let three = times_name(two, algebra, weigh, 2, m, n);
+    let four = times_name(three, algebra, weigh, 3, m, n);
+    let five = times_name(four, algebra, weigh, 4, m, n);
+    times_name(five, algebra, weigh, 5, m, n)
+}
+
+// A product that one name more is multiplied to.
+fn times_name(
+    product: Option<u128>,
+    algebra: &Algebra,
+    weigh: bool,
+    i: u8,
+    m: &Monomial,
+    n: &Monomial,
+) -> Option<u128>
+    requires { i < 6 }
+    ensures { (v : ℕ) → IsCapped v product → IsCapped (v * name_measure weigh (actions_of algebra.now (name_with i)) (exp m.now i) (exp n.now i)) result }
+{
+    if m.exp(i) == 0 {
+        return product;
+    }
+    let name = measure_of_name(algebra, weigh, i, m, n);
+    capped_product(product, name)
 }
 
 fn measure_of_name(
@@ -179,19 +211,31 @@ fn order_of(ps: &[OpTerm]) -> u16
     most
 }
 
-// The first rule that the product of two operators breaks; their terms and their coefficient terms are given.
+// How many terms all coefficients have.
+fn term_count(ps: &[OpTerm]) -> usize
+    requires { length (all_terms (op_entries ps.now)) ≤ most_terms }
+    ensures { result ≡ length (all_terms (op_entries ps.now)) }
+{
+    let mut count = 0;
+    let mut rest = ps;
+    'counting: while let Some((p, more)) = rest.split_first() {
+        count += p.coef.terms().len();
+        rest = more;
+    }
+    count
+}
+
+// The first rule that the product of two operators breaks; their terms and the coefficient terms of the right one are given.
 pub fn product_overflow(
     algebra: &Algebra,
     ps: &[OpTerm],
     qs: &[OpTerm],
-    mine: &[CoefficientTerm],
     its: &[CoefficientTerm],
 ) -> Option<Kind>
-    requires first { HasNumbers mine.now }
-    requires second { HasNumbers its.now }
-    requires few { length mine.now ≤ most_terms }
+    requires few { length (all_terms (op_entries ps.now)) ≤ most_terms }
     requires few_too { length its.now ≤ most_terms }
-    ensures { (p q : Operator) → op_entries ps.now ≡ p.terms → op_entries qs.now ≡ q.terms → IsPartsOf p mine.now → IsPartsOf q its.now → result ≡ product_overflow (actions_of algebra.now) p q }
+    requires small { size_of its.now ≤ largest_norm }
+    ensures { (p q : Operator) → op_entries ps.now ≡ p.terms → op_entries qs.now ≡ q.terms → IsPartsOf q its.now → result ≡ product_overflow (actions_of algebra.now) p q }
 {
     if ps.is_empty() {
         return None;
@@ -205,14 +249,14 @@ pub fn product_overflow(
     if order_of(ps) + order_of(qs) > LARGEST_DEGREE {
         return Some(Kind::Degree);
     }
-    if mine.len() * its.len() > MOST_TERMS {
+    if term_count(ps) * its.len() > MOST_TERMS {
         return Some(Kind::Terms);
     }
-    let count = measure_of_pairs(algebra, false, mine, its);
+    let count = measure_of_pairs(algebra, false, ps, its);
     if passes(count, MOST_TERMS as u128) {
         return Some(Kind::Terms);
     }
-    let norm = measure_of_pairs(algebra, true, mine, its);
+    let norm = measure_of_pairs(algebra, true, ps, its);
     if passes(norm, LARGEST_NORM) {
         return Some(Kind::Number);
     }

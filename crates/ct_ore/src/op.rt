@@ -1,22 +1,23 @@
 // Operators: lists of terms with falling products of symbols and no zero coefficient.
-ghost use Rattle.std.specs.Prelude.{◌≡◌, ◌<◌, ◌↔◌, IfOk, IsTrue, length, map};
+ghost use Rattle.std.specs.Prelude.{◌≡◌, ◌<◌, ◌≤◌, ◌↔◌, IfOk, IsTrue, length, map};
 ghost use Rattle.ct_algebra.specs.Names.{name_with, symbol};
 ghost use Rattle.ct_algebra.specs.Monomial.{unit};
 ghost use Rattle.ct_algebra.specs.Polynomial.{polys};
 ghost use Rattle.ct_algebra.specs.Operators.{no_operator, term_of};
 ghost use Rattle.ct_mono.specs.Checked.{Answers};
+ghost use Rattle.ct_mono.specs.Limits.{most_terms};
 ghost use Rattle.ct_ore.specs.Terms.{op_entries};
 ghost use Rattle.ct_ore.specs.CoefficientTerms.{sum_of_parts};
 ghost use Rattle.ct_ore.specs.Lists.{Fits, IsPartsOf};
 ghost use Rattle.ct_ore.specs.Naming.{actions_of};
-ghost use Rattle.ct_ore.specs.Measures.{checked_sum, checked_difference, checked_product, checked_combination};
+ghost use Rattle.ct_ore.specs.Measures.{term_count, checked_sum, checked_difference, checked_product, checked_combination};
 
 use crate::algebra::Algebra;
 use crate::coefficient_term::CoefficientTerm;
 use crate::coefficients::{gathered, parts_of};
 use crate::measures::product_overflow;
-use crate::product::product_terms;
-use crate::sum::{opposites, sorted, written_sum};
+use crate::product::product_by_halves;
+use crate::sum::{opposites, written_sum};
 use ct_mono::{Fault, Monomial, NoMemory};
 use ct_poly::Poly;
 use std::alloc::Global;
@@ -115,6 +116,13 @@ impl Op {
         Ok(r)
     }
 
+    // Each operator is within the limits.
+    fn within_limits(&self)
+        ensures { term_count self.now ≤ most_terms }
+    {
+        let _ = &self.terms;
+    }
+
     // The terms of all coefficients.
     pub(crate) fn parts(&self, alloc: Global) -> Result<Vec<CoefficientTerm>, NoMemory>
         ensures { IfOk result (λ v. IsPartsOf self.now v.items) }
@@ -159,19 +167,12 @@ impl Op {
         if other.is_zero() {
             return Ok(Op::zero(alloc));
         }
-        let mine = self.parts(alloc)?;
+        self.within_limits();
         let its = other.parts(alloc)?;
-        match product_overflow(
-            algebra,
-            self.terms(),
-            other.terms(),
-            mine.as_slice(),
-            its.as_slice(),
-        ) {
+        match product_overflow(algebra, self.terms(), other.terms(), its.as_slice()) {
             Some(kind) => Err(Fault::Overflow(kind)),
             None => {
-                let terms = product_terms(alloc, algebra, self.terms(), its.as_slice())?;
-                let parts = sorted(alloc, terms.as_slice())?;
+                let parts = product_by_halves(alloc, algebra, self.terms(), its.as_slice())?;
                 let r = Op::of_parts(alloc, parts.as_slice())?;
                 Ok(r)
             }

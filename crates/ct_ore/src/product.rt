@@ -1,41 +1,68 @@
-// The coefficient terms of a product, before they are gathered.
-ghost use Rattle.std.specs.Prelude.{◌≡◌, ◌<◌, ◌≤◌, ◌*◌, ◌++◌, ◌∷◌, [], ◌*ℤ◌, pos, IfOk, unsigned_abs};
-ghost use Rattle.ct_algebra.specs.Monomial.{exp};
+// The coefficient terms of a product.
+ghost use Rattle.std.specs.Prelude.{◌≡◌, ◌<◌, ◌≤◌, ◌+◌, ◌*◌, ◌++◌, ◌∷◌, [], ◌*ℤ◌, pos, IfOk, nat_abs, unsigned_abs};
+ghost use Rattle.ct_algebra.specs.Monomial.{exp, total};
 ghost use Rattle.ct_algebra.specs.Names.{name_with};
 ghost use Rattle.ct_mono.specs.Limits.{largest_degree, largest_norm};
 ghost use Rattle.ct_poly.specs.Terms.{entries};
 ghost use Rattle.ct_ore.specs.Naming.{actions_of, action_of};
 ghost use Rattle.ct_ore.specs.Terms.{op_entries};
-ghost use Rattle.ct_ore.specs.PairTerms.{raised_term, raised, expanded, multiplied, multiplied_by, product_terms};
-ghost use Rattle.ct_ore.specs.Bounds.{CanRaise, CanExpand, CanScale, EachScales, CanMultiply};
+ghost use Rattle.ct_ore.specs.PairTerms.{raised_term, raised, expanded, times_term, multiplied, multiplied_by, product_terms};
+ghost use Rattle.ct_ore.specs.Bounds.{CanRaise, CanExpand, CanScale, CanMultiply};
+ghost use Rattle.ct_ore.specs.Lists.{IsSum};
 
 use crate::algebra::{Action, Algebra};
 use crate::coefficient_term::CoefficientTerm;
 use crate::measures::small_exponent;
 use crate::op::OpTerm;
+use crate::sum::{merge, sorted};
 use crate::ways::{how_many, next_way, symbols_left};
 use ct_mono::{Monomial, NoMemory};
 use ct_poly::Term;
 use std::alloc::Global;
 
-// All terms that the terms of the left factor make of the coefficient terms of the right one.
-pub fn product_terms(
+// What the terms of the left factor make of the coefficient terms of the right one, in written form: the terms are halved
+// until one is left, and what the halves make is merged.
+pub fn product_by_halves(
     alloc: Global,
     algebra: &Algebra,
     es: &[OpTerm],
     ts: &[CoefficientTerm],
 ) -> Result<Vec<CoefficientTerm>, NoMemory>
     requires { CanMultiply (actions_of algebra.now) (op_entries es.now) ts.now }
-    ensures { IfOk result (λ v. v.items ≡ product_terms (actions_of algebra.now) (op_entries es.now) ts.now) }
+    ensures { IfOk result (λ v. IsSum (product_terms (actions_of algebra.now) (op_entries es.now) ts.now) v.items) }
 {
-    let mut out = Vec::new(alloc);
-    let mut rest = es;
-    'multiplying: while let Some((e, more)) = rest.split_first() {
-        let made = expanded(alloc, algebra, &e.mono, ts)?;
-        append_products(&mut out, e.coef.terms(), made.as_slice())?;
-        rest = more;
+    if es.is_empty() {
+        return Ok(Vec::new(alloc));
     }
-    Ok(out)
+    if es.len() == 1 {
+        let product = product_of_term(alloc, algebra, &es[0], ts)?;
+        return Ok(product);
+    }
+    let (front, back) = es.split_at(es.len() / 2);
+    let left = product_by_halves(alloc, algebra, front, ts)?;
+    let right = product_by_halves(alloc, algebra, back, ts)?;
+    let both = merge(alloc, left.as_slice(), right.as_slice())?;
+    Ok(both)
+}
+
+// The same for one term of the left factor.
+fn product_of_term(
+    alloc: Global,
+    algebra: &Algebra,
+    e: &OpTerm,
+    ts: &[CoefficientTerm],
+) -> Result<Vec<CoefficientTerm>, NoMemory>
+    requires { CanMultiply (actions_of algebra.now) ((e.now.mono, e.now.coef) ∷ []) ts.now }
+    ensures { IfOk result (λ v. IsSum (product_terms (actions_of algebra.now) ((e.now.mono, e.now.coef) ∷ []) ts.now) v.items) }
+{
+    if e.mono.total() == 0 {
+        let product = multiple(alloc, e.coef.terms(), ts)?;
+        return Ok(product);
+    }
+    let made = expanded(alloc, algebra, &e.mono, ts)?;
+    let falling = sorted(alloc, made.as_slice())?;
+    let product = multiple(alloc, e.coef.terms(), falling.as_slice())?;
+    Ok(product)
 }
 
 // What a product of symbols makes of the terms, name after name.
@@ -48,30 +75,34 @@ fn expanded(
     requires { CanExpand (actions_of algebra.now) m.now ts.now }
     ensures { IfOk result (λ v. v.items ≡ expanded (actions_of algebra.now) m.now ts.now) }
 {
-    let five = raised_by(alloc, algebra, m, 5, ts)?;
-    let four = raised_by(alloc, algebra, m, 4, five.as_slice())?;
-    let three = raised_by(alloc, algebra, m, 3, four.as_slice())?;
-    let two = raised_by(alloc, algebra, m, 2, three.as_slice())?;
-    let one = raised_by(alloc, algebra, m, 1, two.as_slice())?;
-    let all = raised_by(alloc, algebra, m, 0, one.as_slice())?;
+    let none = Vec::from_slice(alloc, ts)?;
+    let five = raised_by(alloc, algebra, m, 5, none)?;
+    let four = raised_by(alloc, algebra, m, 4, five)?;
+    let three = raised_by(alloc, algebra, m, 3, four)?;
+    let two = raised_by(alloc, algebra, m, 2, three)?;
+    let one = raised_by(alloc, algebra, m, 1, two)?;
+    let all = raised_by(alloc, algebra, m, 0, one)?;
     Ok(all)
 }
 
-// What the symbols of one name in a product make of the terms.
+// What the symbols of one name in a product make of the terms. Where it has none of them, the terms stay.
 fn raised_by(
     alloc: Global,
     algebra: &Algebra,
     m: &Monomial,
     i: u8,
-    ts: &[CoefficientTerm],
+    ts: Vec<CoefficientTerm>,
 ) -> Result<Vec<CoefficientTerm>, NoMemory>
     requires known { i < 6 }
-    requires can { CanRaise (actions_of algebra.now (name_with i)) i (exp m.now i) ts.now }
-    ensures { IfOk result (λ v. v.items ≡ raised (actions_of algebra.now (name_with i)) i (exp m.now i) ts.now) }
+    requires can { CanRaise (actions_of algebra.now (name_with i)) i (exp m.now i) ts.items }
+    ensures { IfOk result (λ v. v.items ≡ raised (actions_of algebra.now (name_with i)) i (exp m.now i) ts.items) }
 {
     let action = algebra.action(i);
     let k = small_exponent(m, i);
-    let made = raised(alloc, action, i, k, ts)?;
+    if k == 0 {
+        return Ok(ts);
+    }
+    let made = raised(alloc, action, i, k, ts.as_slice())?;
     Ok(made)
 }
 
@@ -134,43 +165,114 @@ fn number_times(n: i128, way: u128) -> i128
     n * (way as i128)
 }
 
-// Each term of a polynomial times each term of a list.
-fn append_products(
-    out: &mut Vec<CoefficientTerm>,
+// Each term of a polynomial times each term of a list, in written form. The shorter one is halved.
+fn multiple(
+    alloc: Global,
     us: &[Term],
     ts: &[CoefficientTerm],
-) -> Result<(), NoMemory>
-    requires { EachScales (entries us.now) ts.now }
-    ensures { IfOk result (λ _. out.new.items ≡ out.old.items ++ multiplied_by (entries us.now) ts.now) }
+) -> Result<Vec<CoefficientTerm>, NoMemory>
+    requires { CanScale (entries us.now) ts.now }
+    ensures { IfOk result (λ v. IsSum (multiplied_by (entries us.now) ts.now) v.items) }
 {
-    let mut rest = us;
-    'appending: while let Some((u, more)) = rest.split_first() {
-        append_multiplied(out, u, ts)?;
-        rest = more;
+    if us.len() <= ts.len() {
+        left_by_halves(alloc, us, ts)
+    } else {
+        right_by_halves(alloc, us, ts)
     }
-    Ok(())
 }
 
-fn append_multiplied(
-    out: &mut Vec<CoefficientTerm>,
+fn left_by_halves(
+    alloc: Global,
+    us: &[Term],
+    ts: &[CoefficientTerm],
+) -> Result<Vec<CoefficientTerm>, NoMemory>
+    requires { CanScale (entries us.now) ts.now }
+    ensures { IfOk result (λ v. IsSum (multiplied_by (entries us.now) ts.now) v.items) }
+{
+    if us.is_empty() {
+        return Ok(Vec::new(alloc));
+    }
+    if us.len() == 1 {
+        let row = row_of_left(alloc, &us[0], ts)?;
+        return Ok(row);
+    }
+    let (front, back) = us.split_at(us.len() / 2);
+    let left = left_by_halves(alloc, front, ts)?;
+    let right = left_by_halves(alloc, back, ts)?;
+    let both = merge(alloc, left.as_slice(), right.as_slice())?;
+    Ok(both)
+}
+
+fn right_by_halves(
+    alloc: Global,
+    us: &[Term],
+    ts: &[CoefficientTerm],
+) -> Result<Vec<CoefficientTerm>, NoMemory>
+    requires { CanScale (entries us.now) ts.now }
+    ensures { IfOk result (λ v. IsSum (multiplied_by (entries us.now) ts.now) v.items) }
+{
+    if ts.is_empty() {
+        return Ok(Vec::new(alloc));
+    }
+    if ts.len() == 1 {
+        let row = row_of_right(alloc, us, &ts[0])?;
+        return Ok(row);
+    }
+    let (front, back) = ts.split_at(ts.len() / 2);
+    let left = right_by_halves(alloc, us, front)?;
+    let right = right_by_halves(alloc, us, back)?;
+    let both = merge(alloc, left.as_slice(), right.as_slice())?;
+    Ok(both)
+}
+
+// A term of the polynomial times each term of a list.
+fn row_of_left(
+    alloc: Global,
     u: &Term,
     ts: &[CoefficientTerm],
-) -> Result<(), NoMemory>
-    requires { CanScale u.now.mono u.now.coef ts.now }
-    ensures { IfOk result (λ _. out.new.items ≡ out.old.items ++ multiplied u.now.mono u.now.coef ts.now) }
+) -> Result<Vec<CoefficientTerm>, NoMemory>
+    requires { CanScale ((u.now.mono, u.now.coef) ∷ []) ts.now }
+    ensures { IfOk result (λ v. v.items ≡ multiplied u.now.mono u.now.coef ts.now) }
 {
+    let mut out = Vec::with_capacity(alloc, ts.len())?;
     let mut rest = ts;
-    'appending: while let Some((t, more)) = rest.split_first() {
-        let names = u.mono.product(&t.names);
-        let number = number_product(u.coef, t.number);
-        out.push(CoefficientTerm {
-            symbols: t.symbols,
-            names,
-            number,
-        })?;
+    'multiplying: while let Some((t, more)) = rest.split_first() {
+        let product = product_of_both(u, t);
+        out.push(product)?;
         rest = more;
     }
-    Ok(())
+    Ok(out)
+}
+
+// Each term of the polynomial times a term.
+fn row_of_right(
+    alloc: Global,
+    us: &[Term],
+    t: &CoefficientTerm,
+) -> Result<Vec<CoefficientTerm>, NoMemory>
+    requires { CanScale (entries us.now) (t.now ∷ []) }
+    ensures { IfOk result (λ v. v.items ≡ multiplied_by (entries us.now) (t.now ∷ [])) }
+{
+    let mut out = Vec::with_capacity(alloc, us.len())?;
+    let mut rest = us;
+    'multiplying: while let Some((u, more)) = rest.split_first() {
+        let product = product_of_both(u, t);
+        out.push(product)?;
+        rest = more;
+    }
+    Ok(out)
+}
+
+fn product_of_both(u: &Term, t: &CoefficientTerm) -> CoefficientTerm
+    requires low { total u.now.mono + total t.now.names ≤ largest_degree }
+    requires small { nat_abs u.now.coef * nat_abs t.now.number ≤ largest_norm }
+    ensures { result ≡ times_term u.now.mono u.now.coef t.now }
+{
+    CoefficientTerm {
+        symbols: t.symbols,
+        names: u.mono.product(&t.names),
+        number: number_product(u.coef, t.number),
+    }
 }
 
 // The product of two numbers.

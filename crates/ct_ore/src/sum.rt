@@ -1,10 +1,11 @@
 // Sums of lists of coefficient terms in written form.
-ghost use Rattle.std.specs.Prelude.{◌≡◌, ◌+◌, ◌≤◌, ◌++◌, ◌+ℤ◌, IfOk, unsigned_abs, map, [], ◌∷◌};
+ghost use Rattle.std.specs.Prelude.{◌≡◌, ◌+◌, ◌<◌, ◌≤◌, ◌+ℤ◌, IfOk, unsigned_abs, map, length};
 ghost use Rattle.ct_algebra.specs.Operators.{sum_of_operators};
 ghost use Rattle.ct_mono.specs.Checked.{Answers, verdict};
 ghost use Rattle.ct_mono.specs.Limits.{largest_norm};
 ghost use Rattle.ct_ore.specs.CoefficientTerms.{key, pair_cmp, size_of, sum_of_parts, IsWritten};
-ghost use Rattle.ct_ore.specs.Lists.{Fits, CanMerge, IsMerged, IsSum, opposite, list_overflow};
+ghost use Rattle.ct_ore.specs.PairMeasures.{HasNumbers};
+ghost use Rattle.ct_ore.specs.Lists.{Fits, CanMerge, IsMerged, IsFront, IsSorted, opposite, list_overflow};
 
 use crate::coefficient_term::CoefficientTerm;
 use crate::op::Op;
@@ -71,16 +72,16 @@ pub fn merge(
     requires { CanMerge ps.now qs.now }
     ensures { IfOk result (λ v. IsMerged ps.now qs.now v.items) }
 {
-    let mut out = Vec::new(alloc);
+    let mut out = Vec::with_capacity(alloc, ps.len() + qs.len())?;
     let mut p = ps;
     let mut q = qs;
     'merging: loop {
         let Some((a, p_rest)) = p.split_first() else {
-            append(&mut out, q)?;
+            out.extend_from_slice(q)?;
             return Ok(out);
         };
         let Some((b, q_rest)) = q.split_first() else {
-            append(&mut out, p)?;
+            out.extend_from_slice(p)?;
             return Ok(out);
         };
         match compare(a, b) {
@@ -116,39 +117,57 @@ pub fn merge(
     }
 }
 
-// All terms in written form, terms at the same key added: each half by itself, then both merged.
+// All terms in written form, terms at the same key added: what is in written form is copied, and what is not is cut in
+// two, each part by itself, and both are merged.
 pub fn sorted(alloc: Global, ts: &[CoefficientTerm]) -> Result<Vec<CoefficientTerm>, NoMemory>
-    requires { size_of ts.now ≤ largest_norm }
-    ensures { IfOk result (λ v. IsSum ts.now v.items) }
+    requires numbers { HasNumbers ts.now }
+    requires small { size_of ts.now ≤ largest_norm }
+    ensures { IfOk result (λ v. IsSorted ts.now v.items) }
 {
-    if ts.is_empty() {
-        return Ok(Vec::new(alloc));
+    if written_front(ts) == ts.len() {
+        let copy = Vec::from_slice(alloc, ts)?;
+        return Ok(copy);
     }
-    if ts.len() == 1 {
-        let one = single(alloc, &ts[0])?;
-        return Ok(one);
-    }
-    let (front, back) = ts.split_at(ts.len() / 2);
+    let (front, back) = ts.split_at(middle(ts));
     let left = sorted(alloc, front)?;
     let right = sorted(alloc, back)?;
     let both = merge(alloc, left.as_slice(), right.as_slice())?;
     Ok(both)
 }
 
-// A term that is not zero.
-fn single(alloc: Global, t: &CoefficientTerm) -> Result<Vec<CoefficientTerm>, NoMemory>
-    ensures { IfOk result (λ v. IsSum (t.now ∷ []) v.items) }
+// Where a list is cut: where the terms that are in written form from the half on end, or at the half where the list does.
+fn middle(ts: &[CoefficientTerm]) -> usize
+    requires numbers { HasNumbers ts.now }
+    requires some { 1 < length ts.now }
+    ensures low { 0 < result }
+    ensures high { result < length ts.now }
 {
-    let mut out = Vec::new(alloc);
-    if t.number == 0 {
-        return Ok(out);
+    let half = ts.len() / 2;
+    let (_, back) = ts.split_at(half);
+    let cut = half + written_front(back);
+    if cut < ts.len() { cut } else { half }
+}
+
+// How many of the first terms are in written form by themselves.
+fn written_front(ts: &[CoefficientTerm]) -> usize
+    requires { HasNumbers ts.now }
+    ensures { IsFront ts.now result }
+{
+    let Some((first, more)) = ts.split_first() else {
+        return 0;
+    };
+    let mut last = first;
+    let mut rest = more;
+    'falling: while let Some((t, later)) = rest.split_first() {
+        match compare(t, last) {
+            Ordering::Less => {
+                last = t;
+                rest = later;
+            }
+            _ => return ts.len() - rest.len(),
+        }
     }
-    out.push(CoefficientTerm {
-        symbols: t.symbols,
-        names: t.names,
-        number: t.number,
-    })?;
-    Ok(out)
+    ts.len()
 }
 
 // The order of terms: by the symbols, then by the names.
@@ -167,18 +186,4 @@ fn number_sum(a: i128, b: i128) -> i128
     ensures { result ≡ a +ℤ b }
 {
     a + b
-}
-
-// Puts copies of the terms at the end.
-fn append(out: &mut Vec<CoefficientTerm>, ts: &[CoefficientTerm]) -> Result<(), NoMemory>
-    ensures { IfOk result (λ _. out.new.items ≡ out.old.items ++ ts.now) }
-{
-    for t in ts {
-        out.push(CoefficientTerm {
-            symbols: t.symbols,
-            names: t.names,
-            number: t.number,
-        })?;
-    }
-    Ok(())
 }

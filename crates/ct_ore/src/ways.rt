@@ -1,5 +1,5 @@
 // How many terms the symbols of a name make of a power of the name, and which numbers stand before them.
-ghost use Rattle.std.specs.Prelude.{◌≡◌, ◌+◌, ◌*◌, ◌^◌, ◌<◌, ◌≤◌, ℕ};
+ghost use Rattle.std.specs.Prelude.{◌≡◌, ◌+◌, ◌*◌, ◌^◌, ◌<◌, ◌≤◌, ℕ, eqb};
 ghost use Rattle.ct_mono.specs.Limits.{largest_degree, largest_norm};
 ghost use Rattle.ct_ore.specs.Naming.{action_of};
 ghost use Rattle.ct_ore.specs.PairTerms.{how_many, ways, symbols_left};
@@ -74,8 +74,30 @@ pub fn capped_sum(m: Option<u128>, n: Option<u128>) -> Option<u128>
     if sum > LARGEST_NORM { None } else { Some(sum) }
 }
 
-// The product of positive numbers, where it is within the largest norm.
+// The product, where it is within the largest norm.
 pub fn capped_product(m: Option<u128>, n: Option<u128>) -> Option<u128>
+    ensures { (v w : ℕ) → IsCapped v m → IsCapped w n → IsCapped (v * w) result }
+{
+    if is_zero(m) {
+        return Some(0);
+    }
+    if is_zero(n) {
+        return Some(0);
+    }
+    positive_product(m, n)
+}
+
+fn is_zero(n: Option<u128>) -> bool
+    ensures { (v : ℕ) → IsCapped v n → result ≡ eqb v 0 }
+{
+    match n {
+        Some(n) => n == 0,
+        None => false,
+    }
+}
+
+// The product of positive numbers, where it is within the largest norm.
+fn positive_product(m: Option<u128>, n: Option<u128>) -> Option<u128>
     ensures { (v w : ℕ) → 0 < v → 0 < w → IsCapped v m → IsCapped w n → IsCapped (v * w) result }
 {
     let product = m?.checked_mul(n?)?;

@@ -8,16 +8,16 @@ use Rattle.ct_ore.proofs.sum.merge.Goals as goal
 
 pub merging-init : goal.merging-init
 merging-init c =
-    subst (λ out. IsMerging c.args.ps.now c.args.qs.now out c.args.ps.now c.args.qs.now) (sym c.new-out.ensures.items) (merging_start c.args.ps.now c.args.qs.now c.requires)
+    subst (λ out. IsMerging c.args.ps.now c.args.qs.now out c.args.ps.now c.args.qs.now) (sym c.in_ok-out.ensures.items) (merging_start c.args.ps.now c.args.qs.now c.requires)
 
 pub returns-in_default : goal.returns-in_default
 returns-in_default c =
-    let e : c.append.new.out.items ≡ c.merging.out.items ++ c.merging.q.now = search rules in
+    let e : c.extend_from_slice.new.self.items ≡ c.merging.out.items ++ c.merging.q.now = search rules in
     first_ended c.requires c.in_default.ensures.cases e c.merging.invariant
 
 pub returns-in_default-split_first : goal.returns-in_default-split_first
 returns-in_default-split_first c =
-    let e : c.append-in_default-split_first.new.out.items ≡ c.merging.out.items ++ c.merging.p.now = search rules in
+    let e : c.extend_from_slice-in_default-split_first.new.self.items ≡ c.merging.out.items ++ c.merging.p.now = search rules in
     second_ended c.requires c.in_default-split_first.ensures.cases e c.merging.invariant
 
 pub merging-preserved-in-Greater : goal.merging-preserved-in-Greater

@@ -1,7 +1,7 @@
 use Rattle.std.proofs.Common.{◌≡◌, ◌+◌, ◌*◌, ◌^◌, sym, ◌∙◌, ap, subst, rules, arith, lit≤}
 use Rattle.std.proofs.Math.Nat.{pow-suc}
 use Rattle.ct_ore.specs.Bounds.{IsCapped}
-use Rattle.ct_ore.proofs.WayLaws.{power_positive, power_of_one}
+use Rattle.ct_ore.proofs.WayLaws.{power_of_one}
 use Rattle.ct_ore.proofs.ways.shift_weight.Goals as goal
 
 pub returns-then-k-eq0 : goal.returns-then-k-eq0
@@ -12,4 +12,4 @@ pub loop-j-preserved : goal.loop-j-preserved
 loop-j-preserved c =
     let next : (1 + c.args.k) ^ (c.loop-j.j + 1) ≡ (1 + c.args.k) ^ c.loop-j.j * (1 + c.args.k) = ap (λ m. (1 + c.args.k) ^ m) (omega arith) ∙ pow-suc (1 + c.args.k) c.loop-j.j in
     subst (λ v. IsCapped v c.capped_product-weight.result) (sym next)
-    (c.capped_product-weight.ensures ((1 + c.args.k) ^ c.loop-j.j) (1 + c.args.k) (power_positive (1 + c.args.k) c.loop-j.j (omega arith)) (omega arith) c.loop-j.invariant (search rules))
+    (c.capped_product-weight.ensures ((1 + c.args.k) ^ c.loop-j.j) (1 + c.args.k) c.loop-j.invariant (search rules))

@@ -1,12 +1,12 @@
-use Rattle.std.proofs.Common.{◌≡◌, None, ◌∙◌, sym, ap, subst}
+use Rattle.std.proofs.Common.{◌≡◌, ◌≤◌, length, None, ◌∙◌, sym, ap, subst}
+use Rattle.ct_mono.specs.Limits.{most_terms}
 use Rattle.ct_ore.specs.Naming.{actions_of}
 use Rattle.ct_ore.specs.Terms.{op_entries}
 use Rattle.ct_ore.specs.CoefficientTerms.{sum_of_parts}
-use Rattle.ct_ore.specs.PairMeasures.{HasNumbers}
-use Rattle.ct_ore.specs.Measures.{product_overflow}
+use Rattle.ct_ore.specs.Measures.{all_terms, coefficient_terms, term_count, product_overflow}
 use Rattle.ct_ore.specs.Bounds.{CanMultiply}
 use Rattle.ct_ore.specs.Lists.{Fits, IsPartsOf}
-use Rattle.ct_ore.proofs.ProductRules.{FitsProduct, zero_left, zero_right, none_fits, parts_have_numbers, can_multiply, terms_small, sorted_fits, answers_value, answers_kind, told_some}
+use Rattle.ct_ore.proofs.ProductRules.{FitsProduct, zero_left, zero_right, none_fits, can_multiply, product_fits, answers_value, answers_kind, told_some}
 use Rattle.ct_ore.proofs.op.Op.mul.Goals as goal
 
 pub returns-then-is_zero : goal.returns-then-is_zero
@@ -16,36 +16,32 @@ pub returns-then-is_zero-2 : goal.returns-then-is_zero-2
 returns-then-is_zero-2 c = zero_right (actions_of c.args.algebra.now) c.args.self.now c.args.other.now c.zero-then-is_zero-2.result (c.is_zero-2.ensures.0 c.if-is_zero-2.true) c.zero-then-is_zero-2.ensures
 
 pub product_overflow-requires : goal.product_overflow-requires
-product_overflow-requires c = record {
-  first = subst HasNumbers (sym c.as_slice.ensures.value) (parts_have_numbers c.args.self.now c.in_ok-mine.mine.items c.in_ok-mine.ensures);
-  second = subst HasNumbers (sym c.as_slice-2.ensures.value) (parts_have_numbers c.args.other.now c.in_ok-its.its.items c.in_ok-its.ensures);
-  few = (subst Fits (sym c.as_slice.ensures.value) c.in_ok-mine.ensures.fits).few;
-  few_too = (subst Fits (sym c.as_slice-2.ensures.value) c.in_ok-its.ensures.fits).few;
-}
+unfolding term_count coefficient_terms
+product_overflow-requires c =
+    let its = subst Fits (sym c.as_slice.ensures.value) c.in_ok-its.ensures.fits in
+    record {
+      few = subst (λ es. length (all_terms es) ≤ most_terms) (sym c.terms.ensures) c.within_limits.ensures;
+      few_too = its.few;
+      small = its.small;
+    }
 
 pub returns-in-Some : goal.returns-in-Some
 returns-in-Some c =
-    answers_kind (actions_of c.args.algebra.now) c.args.self.now c.args.other.now c.in-Some.kind (c.in-Some.ensures c.args.self.now c.args.other.now c.terms.ensures c.terms-2.ensures (subst (IsPartsOf c.args.self.now) (sym c.as_slice.ensures.value) c.in_ok-mine.ensures) (subst (IsPartsOf c.args.other.now) (sym c.as_slice-2.ensures.value) c.in_ok-its.ensures))
+    answers_kind (actions_of c.args.algebra.now) c.args.self.now c.args.other.now c.in-Some.kind (c.in-Some.ensures c.args.self.now c.args.other.now c.terms.ensures c.terms-2.ensures (subst (IsPartsOf c.args.other.now) (sym c.as_slice.ensures.value) c.in_ok-its.ensures))
 
-pub product_terms-requires : goal.product_terms-requires
-product_terms-requires c =
-    let none : None ≡ product_overflow (actions_of c.args.algebra.now) c.args.self.now c.args.other.now = c.in-None.ensures c.args.self.now c.args.other.now c.terms.ensures c.terms-2.ensures (subst (IsPartsOf c.args.self.now) (sym c.as_slice.ensures.value) c.in_ok-mine.ensures) (subst (IsPartsOf c.args.other.now) (sym c.as_slice-2.ensures.value) c.in_ok-its.ensures) in
+pub product_by_halves-requires : goal.product_by_halves-requires
+product_by_halves-requires c =
+    let none : None ≡ product_overflow (actions_of c.args.algebra.now) c.args.self.now c.args.other.now = c.in-None.ensures c.args.self.now c.args.other.now c.terms.ensures c.terms-2.ensures (subst (IsPartsOf c.args.other.now) (sym c.as_slice.ensures.value) c.in_ok-its.ensures) in
     let fits : FitsProduct (actions_of c.args.algebra.now) c.args.self.now c.args.other.now = none_fits (actions_of c.args.algebra.now) c.args.self.now c.args.other.now (told_some c.args.self.now c.is_zero.result c.is_zero.ensures.1 c.if-is_zero.false) (told_some c.args.other.now c.is_zero-2.result c.is_zero-2.ensures.1 c.if-is_zero-2.false) none in
     subst (λ es. CanMultiply (actions_of c.args.algebra.now) es c.as_slice-in-None.result.now) (sym c.terms-in-None.ensures) (can_multiply (actions_of c.args.algebra.now) c.args.self.now c.args.other.now c.as_slice-in-None.result.now (c.as_slice-in-None.ensures.value ∙ c.in_ok-its.ensures.list) fits)
 
-pub sorted-requires : goal.sorted-requires
-sorted-requires c =
-    let none : None ≡ product_overflow (actions_of c.args.algebra.now) c.args.self.now c.args.other.now = c.in-None.ensures c.args.self.now c.args.other.now c.terms.ensures c.terms-2.ensures (subst (IsPartsOf c.args.self.now) (sym c.as_slice.ensures.value) c.in_ok-mine.ensures) (subst (IsPartsOf c.args.other.now) (sym c.as_slice-2.ensures.value) c.in_ok-its.ensures) in
-    let fits : FitsProduct (actions_of c.args.algebra.now) c.args.self.now c.args.other.now = none_fits (actions_of c.args.algebra.now) c.args.self.now c.args.other.now (told_some c.args.self.now c.is_zero.result c.is_zero.ensures.1 c.if-is_zero.false) (told_some c.args.other.now c.is_zero-2.result c.is_zero-2.ensures.1 c.if-is_zero-2.false) none in
-    terms_small (actions_of c.args.algebra.now) c.args.self.now c.args.other.now (op_entries c.terms-in-None.result.now) c.as_slice-in-None.result.now c.as_slice-in-None-2.result.now c.terms-in-None.ensures (c.as_slice-in-None.ensures.value ∙ c.in_ok-its.ensures.list) (c.as_slice-in-None-2.ensures.value ∙ c.in_ok-terms-in-None.ensures) fits
-
 pub of_parts-requires : goal.of_parts-requires
 of_parts-requires c =
-    let none : None ≡ product_overflow (actions_of c.args.algebra.now) c.args.self.now c.args.other.now = c.in-None.ensures c.args.self.now c.args.other.now c.terms.ensures c.terms-2.ensures (subst (IsPartsOf c.args.self.now) (sym c.as_slice.ensures.value) c.in_ok-mine.ensures) (subst (IsPartsOf c.args.other.now) (sym c.as_slice-2.ensures.value) c.in_ok-its.ensures) in
+    let none : None ≡ product_overflow (actions_of c.args.algebra.now) c.args.self.now c.args.other.now = c.in-None.ensures c.args.self.now c.args.other.now c.terms.ensures c.terms-2.ensures (subst (IsPartsOf c.args.other.now) (sym c.as_slice.ensures.value) c.in_ok-its.ensures) in
     let fits : FitsProduct (actions_of c.args.algebra.now) c.args.self.now c.args.other.now = none_fits (actions_of c.args.algebra.now) c.args.self.now c.args.other.now (told_some c.args.self.now c.is_zero.result c.is_zero.ensures.1 c.if-is_zero.false) (told_some c.args.other.now c.is_zero-2.result c.is_zero-2.ensures.1 c.if-is_zero-2.false) none in
-    subst Fits (sym c.as_slice-in-None-3.ensures.value) (sorted_fits (actions_of c.args.algebra.now) c.args.self.now c.args.other.now (op_entries c.terms-in-None.result.now) c.as_slice-in-None.result.now c.as_slice-in-None-2.result.now c.in_ok-parts-in-None.parts.items c.terms-in-None.ensures (c.as_slice-in-None.ensures.value ∙ c.in_ok-its.ensures.list) (c.as_slice-in-None-2.ensures.value ∙ c.in_ok-terms-in-None.ensures) c.in_ok-parts-in-None.ensures fits)
+    subst Fits (sym c.as_slice-in-None-2.ensures.value) (product_fits (actions_of c.args.algebra.now) c.args.self.now c.args.other.now (op_entries c.terms-in-None.result.now) c.as_slice-in-None.result.now c.in_ok-parts-in-None.parts.items c.terms-in-None.ensures (c.as_slice-in-None.ensures.value ∙ c.in_ok-its.ensures.list) c.in_ok-parts-in-None.ensures fits)
 
 pub returns : goal.returns
 returns c =
-    let none : None ≡ product_overflow (actions_of c.args.algebra.now) c.args.self.now c.args.other.now = c.in-None.ensures c.args.self.now c.args.other.now c.terms.ensures c.terms-2.ensures (subst (IsPartsOf c.args.self.now) (sym c.as_slice.ensures.value) c.in_ok-mine.ensures) (subst (IsPartsOf c.args.other.now) (sym c.as_slice-2.ensures.value) c.in_ok-its.ensures) in
-    answers_value (actions_of c.args.algebra.now) c.args.self.now c.args.other.now c.in_ok-r-in-None.r (op_entries c.terms-in-None.result.now) c.as_slice-in-None.result.now c.as_slice-in-None-2.result.now c.in_ok-parts-in-None.parts.items c.terms-in-None.ensures (c.as_slice-in-None.ensures.value ∙ c.in_ok-its.ensures.list) (c.as_slice-in-None-2.ensures.value ∙ c.in_ok-terms-in-None.ensures) c.in_ok-parts-in-None.ensures (c.in_ok-r-in-None.ensures ∙ ap sum_of_parts c.as_slice-in-None-3.ensures.value) none
+    let none : None ≡ product_overflow (actions_of c.args.algebra.now) c.args.self.now c.args.other.now = c.in-None.ensures c.args.self.now c.args.other.now c.terms.ensures c.terms-2.ensures (subst (IsPartsOf c.args.other.now) (sym c.as_slice.ensures.value) c.in_ok-its.ensures) in
+    answers_value (actions_of c.args.algebra.now) c.args.self.now c.args.other.now c.in_ok-r-in-None.r (op_entries c.terms-in-None.result.now) c.as_slice-in-None.result.now c.in_ok-parts-in-None.parts.items c.terms-in-None.ensures (c.as_slice-in-None.ensures.value ∙ c.in_ok-its.ensures.list) c.in_ok-parts-in-None.ensures (c.in_ok-r-in-None.ensures ∙ ap sum_of_parts c.as_slice-in-None-2.ensures.value) none
