@@ -1,9 +1,11 @@
 -- A list in written form falls into runs of equal symbols, and each run is a term of the operator: the steps that gather it.
 -- Main lemmas `gathering_step` and `gathering_end`. Two ways of cutting a list where the symbols change are the same way.
-use Rattle.std.proofs.Common.{◌≡◌, refl, suc, ◌+◌, ◌≤◌, nat_abs, ℤ, List, [], ◌∷◌, ◌++◌, length, get_or, drop, sym, ◌∙◌, ap, ap₂, subst, subst₂, arith, length-append, append_assoc, append-nil, T, cond, true, false}
+use Rattle.std.proofs.Common.{◌≡◌, refl, ℕ, suc, ◌+◌, ◌-◌, ◌≤◌, nat_abs, ℤ, List, [], ◌∷◌, ◌++◌, length, get_or, map, take, drop, sym, ◌∙◌, ap, ap₂, subst, subst₂, arith, length-append, append_assoc, append-nil, T, cond, true, false}
 use Rattle.std.specs.Prelude.{◌==◌, not}
 use Rattle.std.specs.Ordering.{ordering_index}
 use Rattle.std.proofs.Common.{Ordering, Less, Equal, Greater}
+use Rattle.std.proofs.Math.Seq.{take-append_seam, drop-append_seam}
+use Rattle.std.proofs.lemmas.List.{take-append-drop}
 use Rattle.std.proofs.lemmas.List.Sums.{sum_by-cons, sum_by-append}
 use Rattle.ct_algebra.specs.Terms.{AllBelow, IsCanonical}
 use Rattle.ct_algebra.specs.Laws.Terms.{less_is}
@@ -21,17 +23,10 @@ use Rattle.ct_ore.specs.declared.op.OpTerm.{OpTerm}
 use Rattle.ct_ore.specs.Terms.{op_entries}
 use Rattle.ct_ore.specs.CoefficientTerms.{sum_of_parts, size_of}
 use Rattle.ct_ore.specs.Measures.{row_of, all_terms, coefficient_terms}
-use Rattle.ct_ore.specs.Lists.{Fits, StartsOther, IsRun, IsGathering}
+use Rattle.ct_ore.specs.Lists.{Fits, StartsOther, AllHave, IsRun, IsRunLength, IsGathering, without_symbols}
 use Rattle.ct_ore.proofs.WrittenForm.{coefficients_of_sum}
 
 -- ---- lists of code and their entries
-
-pub row_of_push :
-    (m : Mono) (run : List Term) (t : Term) →
-    row_of m (entries (run ++ t ∷ [])) ≡ row_of m (entries run) ++ record { symbols = m; names = t.mono; number = t.coef } ∷ []
-row_of_push m [] t = refl
-row_of_push m (r ∷ run) t =
-    ap (λ us. record { symbols = m; names = r.mono; number = r.coef } ∷ us) (row_of_push m run t)
 
 pub op_entries_push : (out : List OpTerm) (t : OpTerm) → op_entries (out ++ t ∷ []) ≡ op_entries out ++ (t.mono, t.coef) ∷ []
 op_entries_push [] t = refl
@@ -68,7 +63,7 @@ unequal_index Equal e same = cc
 unequal_index Greater e same = cc
 
 -- what is not yet passed is what is dropped
-pub run_ends :
+run_ends :
     {m : Mono} {ts : List CoefficientTerm} {run : List Term} (rest : List CoefficientTerm) → ts ≡ row_of m (entries run) ++ rest →
     StartsOther m rest → IsRun m ts run
 run_ends {m} {ts} {run} rest whole other =
@@ -77,6 +72,59 @@ run_ends {m} {ts} {run} rest whole other =
       whole = whole ∙ ap (λ us. row_of m (entries run) ++ us) (sym dropped);
       other = subst (StartsOther m) (sym dropped) other;
     }
+
+-- ---- the first terms with given symbols
+
+pub record IsRunning (m : Mono) (ts rest : List CoefficientTerm) : Type 0 where
+  pub done : List CoefficientTerm
+  pub whole : ts ≡ done ++ rest
+  pub same : AllHave m done
+
+pub running_start : (m : Mono) (ts : List CoefficientTerm) → IsRunning m ts ts
+running_start m ts = record { done = []; whole = refl; same = tt }
+
+have_push : (m : Mono) (ts : List CoefficientTerm) (t : CoefficientTerm) → AllHave m ts → t.symbols ≡ m → AllHave m (ts ++ t ∷ [])
+have_push m [] t all same = (same, tt)
+have_push m (u ∷ ts) t all same = (all.0, have_push m ts t all.1 same)
+
+pub running_step :
+    {m : Mono} {ts rest more : List CoefficientTerm} {t : CoefficientTerm} → rest ≡ t ∷ more → t.symbols ≡ m →
+    IsRunning m ts rest → IsRunning m ts more
+running_step {m} {ts} {rest} {more} {t} head same r = record {
+  done = r.done ++ t ∷ [];
+  whole = r.whole ∙ ap (λ us. r.done ++ us) head ∙ sym (append_assoc r.done (t ∷ []) more);
+  same = have_push m r.done t r.same same;
+}
+
+pub running_cut :
+    {m : Mono} {ts rest : List CoefficientTerm} (n : ℕ) → n ≡ length ts - length rest → IsRunning m ts rest → StartsOther m rest →
+    IsRunLength m ts n
+running_cut {m} {ts} {rest} n count r other =
+    let long : n ≡ length r.done = omega (arith, count, ap length r.whole, length-append r.done rest) in
+    record {
+      same = subst (AllHave m) (sym (ap₂ take long r.whole ∙ take-append_seam r.done rest)) r.same;
+      other = subst (StartsOther m) (sym (ap₂ drop long r.whole ∙ drop-append_seam r.done rest)) other;
+      within = omega arith;
+    }
+
+pub running_end : {m : Mono} {ts rest : List CoefficientTerm} → length rest ≡ 0 → IsRunning m ts rest → IsRunLength m ts (length ts)
+running_end {m} {ts} {rest} none r = running_cut (length ts) (omega (arith, none)) r (empty rest none)
+  where
+    empty : (us : List CoefficientTerm) → length us ≡ 0 → StartsOther m us
+    empty [] e = tt
+    empty (u ∷ us) e = absurd (omega arith)
+
+run_row : (m : Mono) (ts : List CoefficientTerm) → AllHave m ts → row_of m (entries (map without_symbols ts)) ≡ ts
+run_row m [] all = refl
+run_row m (t ∷ ts) all = λ i. record { symbols = sym all.0 i; names = t.names; number = t.number } ∷ run_row m ts all.1 i
+
+pub run_of :
+    {m : Mono} {ts front : List CoefficientTerm} {run : List Term} {n : ℕ} → IsRunLength m ts n → front ≡ take n ts →
+    run ≡ map without_symbols front → IsRun m ts run
+run_of {m} {ts} {front} {run} {n} l first made =
+    run_ends (drop n ts)
+    (sym (take-append-drop n ts) ∙ ap (λ us. us ++ drop n ts) (sym (ap (λ us. row_of m (entries us)) (made ∙ ap (map without_symbols) first) ∙ run_row m (take n ts) l.same)))
+    l.other
 
 -- ---- where the symbols change
 

@@ -1,13 +1,16 @@
 -- Merging two lists of coefficient terms in written form: what a step of the loop keeps. Main lemmas `first_taken`,
 -- `both_taken`, `both_gone`, `first_ended`. The steps on pairs are those of all sorted lists; sizes and lengths add up.
-use Rattle.std.proofs.Common.{◌≡◌, refl, ℕ, ◌+◌, ◌≤◌, ℤ, pos, ◌+ℤ◌, nat_abs, List, [], ◌∷◌, ◌++◌, length, sym, ◌∙◌, ap, subst, subst₂, arith, length-append, Less, Equal, false, zero, suc, negsuc}
+use Rattle.std.proofs.Common.{◌≡◌, refl, ℕ, ◌+◌, ◌≤◌, ℤ, pos, ◌+ℤ◌, nat_abs, List, [], ◌∷◌, ◌++◌, length, sym, ◌∙◌, ap, subst, subst₂, arith, length-append, append_assoc, append-nil, take, get_or, ◌<◌, Less, Equal, false, zero, suc, negsuc}
 use Rattle.std.proofs.lemmas.List.Sums.{sum_by-cons, sum_by_push, sum_by-append}
 use Rattle.std.proofs.lemmas.Int.{ints}
 use Rattle.ct_algebra.specs.WholeNumbers.{int_group, int_is_zero}
+use Rattle.ct_algebra.specs.Terms.{AllBelow}
+use Rattle.ct_algebra.specs.Laws.Terms.{less_is}
+use Rattle.ct_algebra.proofs.Merging.{back_canonical}
 use Rattle.ct_algebra.proofs.Merging as merging
 use Rattle.ct_ore.specs.declared.coefficient_term.CoefficientTerm.{CoefficientTerm}
-use Rattle.ct_ore.specs.CoefficientTerms.{by_parts, pair_cmp, pair_tied, key, keyed, size_of}
-use Rattle.ct_ore.specs.Lists.{IsMerging, CanMerge, IsMerged}
+use Rattle.ct_ore.specs.CoefficientTerms.{by_parts, pair_cmp, pair_tied, key, keyed, size_of, IsWritten}
+use Rattle.ct_ore.specs.Lists.{AllBefore, IsBefore, IsMerging, CanMerge, IsMerged}
 use Rattle.ct_ore.proofs.CoefficientSums.{keyed-append}
 
 abbrev pub size : CoefficientTerm → ℕ
@@ -43,6 +46,45 @@ pub second_taken :
     {ps qs out out' p q p' q' : List CoefficientTerm} {a b : CoefficientTerm} → p ≡ a ∷ p' → q ≡ b ∷ q' →
     pair_cmp (key a) (key b) ≡ Less → out' ≡ out ++ b ∷ [] → IsMerging ps qs out p q → IsMerging ps qs out' p q'
 second_taken ep eq less eo h = turned _ _ _ _ _ (first_taken eq ep less eo (turned _ _ _ _ _ h))
+
+-- ---- a stretch of terms that come before a term
+
+stretch_taken :
+    {ps qs out q q' : List CoefficientTerm} {b : CoefficientTerm} (xs p : List CoefficientTerm) → q ≡ b ∷ q' → AllBefore b xs →
+    IsMerging ps qs out (xs ++ p) q → IsMerging ps qs (out ++ xs) p q
+stretch_taken {ps} {qs} {out} {q} [] p eq before h = subst (λ o. IsMerging ps qs o p q) (sym (append-nil out)) h
+stretch_taken {ps} {qs} {out} {q} (x ∷ xs) p eq before h =
+    subst (λ o. IsMerging ps qs o p q) (append_assoc out (x ∷ []) xs)
+    (stretch_taken xs p eq before.1 (first_taken refl eq before.0 refl h))
+
+pub before_taken :
+    {ps qs out out' p p' q q' : List CoefficientTerm} {b : CoefficientTerm} {n : ℕ} (xs : List CoefficientTerm) → q ≡ b ∷ q' →
+    xs ≡ take n p → p ≡ xs ++ p' → IsBefore b p n → out' ≡ out ++ xs → IsMerging ps qs out p q → IsMerging ps qs out' p' q
+before_taken {ps} {qs} {out} {out'} {p} {p'} {q} {q'} {b} xs eq first whole before eo h =
+    subst (λ o. IsMerging ps qs o p' q) (sym eo)
+    (stretch_taken xs p' eq (subst (AllBefore b) (sym first) before.all) (subst (λ r. IsMerging ps qs out r q) whole h))
+
+pub left_written : {ps qs out p q : List CoefficientTerm} → IsMerging ps qs out p q → IsWritten p
+left_written {ps} {qs} {out} {p} {q} h = back_canonical by_parts int_group (keyed out) (keyed p) h.merging.left
+
+-- a term that comes before b has all terms above it before b too
+pub further_before :
+    (b : CoefficientTerm) (ts : List CoefficientTerm) (n : ℕ) (t : CoefficientTerm) → n < length ts → t ≡ get_or ts n t →
+    IsWritten ts → pair_cmp (key b) (key t) ≡ Less → AllBefore b (take (suc n) ts)
+further_before b [] n t below at written less = absurd (omega arith)
+further_before b (u ∷ ts) zero t below at written less = (subst (λ v. pair_cmp (key b) (key v) ≡ Less) at less, tt)
+further_before b (u ∷ ts) (suc n) t below at written less =
+    let lower : pair_cmp (key t) (key u) ≡ Less = below_at ts n t u (omega arith) at written.1 in
+    (by_parts.trans (key b) (key t) (key u) less lower, further_before b ts n t (omega arith) at written.2 less)
+  where
+    below_at :
+        (ts : List CoefficientTerm) (n : ℕ) (t u : CoefficientTerm) → n < length ts → t ≡ get_or ts n t →
+        AllBelow by_parts int_group (key u) (keyed ts) → pair_cmp (key t) (key u) ≡ Less
+    below_at [] n t u below at all = absurd (omega arith)
+    below_at (v ∷ ts) zero t u below at all = subst (λ w. pair_cmp (key w) (key u) ≡ Less) (sym at) (less_is by_parts int_group _ all.0)
+    below_at (v ∷ ts) (suc n) t u below at all = below_at ts n t u (omega arith) at all.1
+
+-- ---- both at one key
 
 tell_nonzero : (z : ℤ) → (z ≡ pos 0 → ⊥) → int_is_zero z ≡ false
 tell_nonzero (pos zero) h = absurd (h refl)

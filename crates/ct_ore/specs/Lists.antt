@@ -2,11 +2,12 @@
 --     Fits ts              a list that is the written form of an operator within the limits
 --     IsRun m ts run       run is the terms of ts up to the first whose symbols are not m
 --     IsGathering          which terms of the operator are done, and which are left
+--     IsBefore b ts n      the first n terms come before b, and one of them is where there are any
 --     IsMerging            what is done and what is left of two lists that are merged
 --     IsFront ts n         the first n terms are in written form by themselves, and one is where there are any
 --     IsSum                a list in written form with the sum of another, no longer and no larger; IsSorted  its terms bounded alike
 use Rattle.std.specs.Prelude.{◌≡◌, ◌≢◌, ℕ, ◌+◌, ◌≤◌, min, ltb, neg_ℤ, None, List, [], ◌∷◌, ◌++◌, length, take, drop}
-use Rattle.std.proofs.Common.{Option}
+use Rattle.std.proofs.Common.{Option, Less}
 use Rattle.ct_algebra.specs.Monomial.{Mono}
 use Rattle.ct_algebra.specs.Terms.{merged}
 use Rattle.ct_algebra.specs.Operators.{Operator}
@@ -22,7 +23,7 @@ use Rattle.ct_poly.specs.Terms.{entries}
 use Rattle.ct_ore.specs.declared.coefficient_term.CoefficientTerm.{CoefficientTerm}
 use Rattle.ct_ore.specs.declared.op.OpTerm.{OpTerm}
 use Rattle.ct_ore.specs.Terms.{op_entries}
-use Rattle.ct_ore.specs.CoefficientTerms.{by_parts, keyed, sum_of_parts, IsWritten, size_of}
+use Rattle.ct_ore.specs.CoefficientTerms.{by_parts, pair_cmp, key, keyed, sum_of_parts, IsWritten, size_of}
 use Rattle.ct_ore.specs.Bounds.{EachWithin}
 use Rattle.ct_ore.specs.Measures.{row_of, all_terms, coefficient_terms}
 
@@ -39,6 +40,19 @@ pub record IsRun (m : Mono) (ts : List CoefficientTerm) (run : List Term) : Type
   pub whole : ts ≡ row_of m (entries run) ++ drop (length run) ts
   pub other : StartsOther m (drop (length run) ts)
 
+abbrev pub without_symbols : CoefficientTerm → Term
+without_symbols t = record { mono = t.names; coef = t.number }
+
+abbrev pub AllHave : Mono → List CoefficientTerm → Type 0
+AllHave m [] = Unit {0}
+AllHave m (t ∷ ts) = (t.symbols ≡ m) × AllHave m ts
+
+-- the first n terms have the symbols m, and the next has not
+pub record IsRunLength (m : Mono) (ts : List CoefficientTerm) (n : ℕ) : Type 0 where
+  pub same : AllHave m (take n ts)
+  pub other : StartsOther m (drop n ts)
+  pub within : n ≤ length ts
+
 -- the terms `later` of the operator are left, and nothing else of the list
 pub record IsGathering (ts : List CoefficientTerm) (out : List OpTerm) (rest : List CoefficientTerm) : Type 0 where
   pub later : List (Mono × Polynomial)
@@ -51,6 +65,17 @@ pub record IsMerging (ps qs done p q : List CoefficientTerm) : Type 0 where
   pub merging : merging.IsMerging by_parts int_group (keyed ps) (keyed qs) (keyed done) (keyed p) (keyed q)
   pub sizes : size_of done + size_of p + size_of q ≤ size_of ps + size_of qs
   pub lengths : length done + length p + length q ≤ length ps + length qs
+
+-- each term comes before b
+abbrev pub AllBefore : CoefficientTerm → List CoefficientTerm → Type 0
+AllBefore b [] = Unit {0}
+AllBefore b (t ∷ ts) = (pair_cmp (key b) (key t) ≡ Less) × AllBefore b ts
+
+-- the first n terms do, and the first one is among them
+pub record IsBefore (b : CoefficientTerm) (ts : List CoefficientTerm) (n : ℕ) : Type 0 where
+  pub all : AllBefore b (take n ts)
+  pub within : n ≤ length ts
+  pub some : min 1 (length ts) ≤ n
 
 pub record IsFront (ts : List CoefficientTerm) (n : ℕ) : Type 0 where
   pub written : IsWritten (take n ts)

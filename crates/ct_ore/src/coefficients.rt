@@ -1,10 +1,11 @@
 // Operators as lists of coefficient terms, and back.
-ghost use Rattle.std.specs.Prelude.{◌≡◌, ◌++◌, IfOk};
+ghost use Rattle.std.specs.Prelude.{◌≡◌, ◌≤◌, ◌++◌, IfOk, length, map};
+ghost use Rattle.ct_mono.specs.Limits.{most_terms};
 ghost use Rattle.ct_poly.specs.Terms.{entries};
 ghost use Rattle.ct_ore.specs.Terms.{op_entries};
 ghost use Rattle.ct_ore.specs.CoefficientTerms.{sum_of_parts};
 ghost use Rattle.ct_ore.specs.Measures.{row_of, all_terms};
-ghost use Rattle.ct_ore.specs.Lists.{Fits, IsRun};
+ghost use Rattle.ct_ore.specs.Lists.{Fits, IsRun, IsRunLength, without_symbols};
 
 use crate::coefficient_term::CoefficientTerm;
 use crate::op::OpTerm;
@@ -13,11 +14,26 @@ use ct_poly::{Poly, Term};
 use std::alloc::Global;
 use std::cmp::Ordering;
 
+// How many terms all coefficients have.
+pub fn term_count(ops: &[OpTerm]) -> usize
+    requires { length (all_terms (op_entries ops.now)) ≤ most_terms }
+    ensures { result ≡ length (all_terms (op_entries ops.now)) }
+{
+    let mut count = 0;
+    let mut rest = ops;
+    'counting: while let Some((op, more)) = rest.split_first() {
+        count += op.coef.terms().len();
+        rest = more;
+    }
+    count
+}
+
 // The terms of all coefficients.
 pub fn parts_of(alloc: Global, ops: &[OpTerm]) -> Result<Vec<CoefficientTerm>, NoMemory>
+    requires { length (all_terms (op_entries ops.now)) ≤ most_terms }
     ensures { IfOk result (λ v. v.items ≡ all_terms (op_entries ops.now)) }
 {
-    let mut out = Vec::new(alloc);
+    let mut out = Vec::with_capacity(alloc, term_count(ops))?;
     let mut rest = ops;
     'listing: while let Some((op, more)) = rest.split_first() {
         append_row(&mut out, &op.mono, op.coef.terms())?;
@@ -65,19 +81,35 @@ pub fn gathered(alloc: Global, ts: &[CoefficientTerm]) -> Result<Vec<OpTerm>, No
 fn run(alloc: Global, m: &Monomial, ts: &[CoefficientTerm]) -> Result<Vec<Term>, NoMemory>
     ensures { IfOk result (λ v. IsRun m.now ts.now v.items) }
 {
-    let mut out = Vec::new(alloc);
+    let (front, _) = ts.split_at(run_length(m, ts));
+    let terms = without_symbols(alloc, front)?;
+    Ok(terms)
+}
+
+// How many terms stand before the first with other symbols.
+fn run_length(m: &Monomial, ts: &[CoefficientTerm]) -> usize
+    ensures { IsRunLength m.now ts.now result }
+{
     let mut rest = ts;
-    'running: loop {
-        let Some((t, more)) = rest.split_first() else {
-            return Ok(out);
-        };
+    'running: while let Some((t, more)) = rest.split_first() {
         if t.symbols.cmp(m) != Ordering::Equal {
-            return Ok(out);
+            return ts.len() - rest.len();
         }
+        rest = more;
+    }
+    ts.len()
+}
+
+// The terms without their symbols.
+fn without_symbols(alloc: Global, ts: &[CoefficientTerm]) -> Result<Vec<Term>, NoMemory>
+    ensures { IfOk result (λ v. v.items ≡ map without_symbols ts.now) }
+{
+    let mut out = Vec::with_capacity(alloc, ts.len())?;
+    for t in ts {
         out.push(Term {
             mono: t.names,
             coef: t.number,
         })?;
-        rest = more;
     }
+    Ok(out)
 }

@@ -15,6 +15,7 @@ ghost use Rattle.ct_ore.specs.PairMeasures.{name_measure, names_measure, term_me
 
 use crate::algebra::{Action, Algebra};
 use crate::coefficient_term::CoefficientTerm;
+use crate::coefficients::term_count;
 use crate::op::OpTerm;
 use crate::sum::size_of_parts;
 use crate::ways::{capped_product, capped_sum, derivation_weight, how_many, shift_weight};
@@ -209,20 +210,6 @@ fn order_of(ps: &[OpTerm]) -> u16
         rest = more;
     }
     most
-}
-
-// How many terms all coefficients have.
-fn term_count(ps: &[OpTerm]) -> usize
-    requires { length (all_terms (op_entries ps.now)) ≤ most_terms }
-    ensures { result ≡ length (all_terms (op_entries ps.now)) }
-{
-    let mut count = 0;
-    let mut rest = ps;
-    'counting: while let Some((p, more)) = rest.split_first() {
-        count += p.coef.terms().len();
-        rest = more;
-    }
-    count
 }
 
 // The first rule that the product of two operators breaks; their terms and the coefficient terms of the right one are given.

@@ -1,11 +1,11 @@
 // Sums of lists of coefficient terms in written form.
-ghost use Rattle.std.specs.Prelude.{◌≡◌, ◌+◌, ◌<◌, ◌≤◌, ◌+ℤ◌, IfOk, unsigned_abs, map, length};
+ghost use Rattle.std.specs.Prelude.{◌≡◌, ◌+◌, ◌<◌, ◌≤◌, ◌+ℤ◌, IfOk, unsigned_abs, map, length, take};
 ghost use Rattle.ct_algebra.specs.Operators.{sum_of_operators};
 ghost use Rattle.ct_mono.specs.Checked.{Answers, verdict};
 ghost use Rattle.ct_mono.specs.Limits.{largest_norm};
 ghost use Rattle.ct_ore.specs.CoefficientTerms.{key, pair_cmp, size_of, sum_of_parts, IsWritten};
 ghost use Rattle.ct_ore.specs.PairMeasures.{HasNumbers};
-ghost use Rattle.ct_ore.specs.Lists.{Fits, CanMerge, IsMerged, IsFront, IsSorted, opposite, list_overflow};
+ghost use Rattle.ct_ore.specs.Lists.{Fits, CanMerge, AllBefore, IsBefore, IsMerged, IsFront, IsSorted, opposite, list_overflow};
 
 use crate::coefficient_term::CoefficientTerm;
 use crate::op::Op;
@@ -86,12 +86,18 @@ pub fn merge(
         };
         match compare(a, b) {
             Ordering::Greater => {
-                out.push(CoefficientTerm {
-                    symbols: a.symbols,
-                    names: a.names,
-                    number: a.number,
-                })?;
-                p = p_rest;
+                if p_rest.len() / 8 > q.len() {
+                    let (before, after) = p.split_at(count_before(p, b));
+                    out.extend_from_slice(before)?;
+                    p = after;
+                } else {
+                    out.push(CoefficientTerm {
+                        symbols: a.symbols,
+                        names: a.names,
+                        number: a.number,
+                    })?;
+                    p = p_rest;
+                }
             }
             Ordering::Less => {
                 out.push(CoefficientTerm {
@@ -115,6 +121,24 @@ pub fn merge(
             }
         }
     }
+}
+
+// How many terms of a list in written form come before a term that its first one comes before, by halving what is left.
+fn count_before(ts: &[CoefficientTerm], b: &CoefficientTerm) -> usize
+    requires written { IsWritten ts.now }
+    requires first { AllBefore b.now (take 1 ts.now) }
+    ensures { IsBefore b.now ts.now result }
+{
+    let mut low = 1.min(ts.len());
+    let mut high = ts.len();
+    'halving: while low < high {
+        let middle = low + (high - low) / 2;
+        match compare(b, &ts[middle]) {
+            Ordering::Less => low = middle + 1,
+            _ => high = middle,
+        }
+    }
+    low
 }
 
 // All terms in written form, terms at the same key added: what is in written form is copied, and what is not is cut in

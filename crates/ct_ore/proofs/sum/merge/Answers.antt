@@ -1,9 +1,9 @@
-use Rattle.std.proofs.Common.{◌≡◌, ◌++◌, ◌∙◌, sym, subst, [], ◌∷◌, rules, pos, ◌+ℤ◌, FitsSigned}
+use Rattle.std.proofs.Common.{◌≡◌, ◌++◌, ◌∙◌, sym, subst, [], ◌∷◌, take, rules, pos, ◌+ℤ◌, FitsSigned}
 use Rattle.std.specs.Int.{w128}
 use Rattle.std.proofs.lemmas.Int.{to_z-of_z}
 use Rattle.ct_ore.specs.CoefficientTerms.{pair_turned_back}
-use Rattle.ct_ore.specs.Lists.{IsMerging}
-use Rattle.ct_ore.proofs.MergeSteps.{merging_start, first_taken, second_taken, both_taken, both_gone, first_ended, second_ended}
+use Rattle.ct_ore.specs.Lists.{AllBefore, IsMerging}
+use Rattle.ct_ore.proofs.MergeSteps.{merging_start, left_written, before_taken, first_taken, second_taken, both_taken, both_gone, first_ended, second_ended}
 use Rattle.ct_ore.proofs.sum.merge.Goals as goal
 
 pub merging-init : goal.merging-init
@@ -20,8 +20,19 @@ returns-in_default-split_first c =
     let e : c.extend_from_slice-in_default-split_first.new.self.items ≡ c.merging.out.items ++ c.merging.p.now = search rules in
     second_ended c.requires c.in_default-split_first.ensures.cases e c.merging.invariant
 
-pub merging-preserved-in-Greater : goal.merging-preserved-in-Greater
-merging-preserved-in-Greater c =
+pub count_before-requires : goal.count_before-requires
+count_before-requires c = record {
+  written = left_written c.merging.invariant;
+  first = subst (λ p. AllBefore c.in-Some-split_first.b.now (take 1 p)) (sym c.in-Some.ensures.cases.0) (pair_turned_back _ _ (sym c.in-Greater.ensures), tt);
+}
+
+pub merging-preserved-then-p_rest-q : goal.merging-preserved-then-p_rest-q
+merging-preserved-then-p_rest-q c =
+    let e : c.extend_from_slice-then-p_rest-q.new.self.items ≡ c.merging.out.items ++ c.split_at.result.0.now = search rules in
+    before_taken c.split_at.result.0.now c.in-Some-split_first.ensures.cases.0 c.split_at.ensures.front c.split_at.ensures.by_index.0 c.count_before.ensures e c.merging.invariant
+
+pub merging-preserved-else-p_rest-q : goal.merging-preserved-else-p_rest-q
+merging-preserved-else-p_rest-q c =
     let e : c.push.new.self.items ≡ c.merging.out.items ++ c.in-Some.a.now ∷ [] = search rules in
     first_taken c.in-Some.ensures.cases.0 c.in-Some-split_first.ensures.cases.0 (pair_turned_back _ _ (sym c.in-Greater.ensures)) e c.merging.invariant
 

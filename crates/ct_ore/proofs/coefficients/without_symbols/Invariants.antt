@@ -1,0 +1,6 @@
+use Rattle.std.proofs.Common.{◌≡◌, map, take}
+use Rattle.ct_ore.specs.Lists.{without_symbols}
+use Rattle.ct_ore.proofs.coefficients.without_symbols.Given as goal
+
+abbrev pub invariant-loop-t : goal.invariant-loop-t
+invariant-loop-t l = l.out.items ≡ map without_symbols (take l.t-index l.ts)
