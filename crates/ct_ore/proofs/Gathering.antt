@@ -1,10 +1,6 @@
 -- A list in written form falls into runs of equal symbols, and each run is a term of the operator: the steps that gather it.
 -- Main lemmas `gathering_step` and `gathering_end`. Two ways of cutting a list where the symbols change are the same way.
-use Rattle.std.proofs.Common.{◌≡◌, refl, ℕ, suc, ◌+◌, ◌-◌, ◌≤◌, nat_abs, ℤ, List, [], ◌∷◌, ◌++◌, length, get_or, map, take, drop, sym, ◌∙◌, ap, ap₂, subst, subst₂, arith, length-append, append_assoc, append-nil, T, cond, true, false}
-use Rattle.std.specs.Prelude.{◌==◌, not}
-use Rattle.std.specs.Ordering.{ordering_index}
-use Rattle.std.proofs.Common.{Ordering, Less, Equal, Greater}
-use Rattle.std.proofs.Math.Seq.{take-append_seam, drop-append_seam}
+use Rattle.std.proofs.Common.{◌≡◌, refl, ℕ, suc, ◌+◌, ◌≤◌, nat_abs, ℤ, List, [], ◌∷◌, ◌++◌, length, get_or, map, take, drop, sym, ◌∙◌, ap, ap₂, subst, subst₂, arith, length-append, append_assoc, append-nil, T, cond, true, false}
 use Rattle.std.proofs.lemmas.List.{take-append-drop}
 use Rattle.std.proofs.lemmas.List.Sums.{sum_by-cons, sum_by-append}
 use Rattle.ct_algebra.specs.Terms.{AllBelow, IsCanonical}
@@ -21,10 +17,10 @@ use Rattle.ct_poly.specs.Terms.{entries, IsFalling}
 use Rattle.ct_ore.specs.declared.coefficient_term.CoefficientTerm.{CoefficientTerm}
 use Rattle.ct_ore.specs.declared.op.OpTerm.{OpTerm}
 use Rattle.ct_ore.specs.Terms.{op_entries}
-use Rattle.ct_ore.specs.CoefficientTerms.{sum_of_parts, size_of}
+use Rattle.ct_ore.specs.CoefficientTerms.{sum_of_parts, size_of, IsWritten}
 use Rattle.ct_ore.specs.Measures.{row_of, all_terms, coefficient_terms}
 use Rattle.ct_ore.specs.Lists.{Fits, StartsOther, AllHave, IsRun, IsRunLength, IsGathering, without_symbols}
-use Rattle.ct_ore.proofs.WrittenForm.{coefficients_of_sum}
+use Rattle.ct_ore.proofs.WrittenForm.{coefficients_of_sum, all_written}
 
 -- ---- lists of code and their entries
 
@@ -51,17 +47,6 @@ drop-row :
 drop-row m [] rest = refl
 drop-row m (t ∷ run) rest = drop-row m run rest
 
--- how code tells that two monomials differ
-pub equal_index : (r : Ordering) → not (ordering_index r == 1) ≡ false → r ≡ Equal
-equal_index Less e = cc
-equal_index Equal e = refl
-equal_index Greater e = cc
-
-pub unequal_index : (r : Ordering) → not (ordering_index r == 1) ≡ true → r ≡ Equal → ⊥
-unequal_index Less e same = cc
-unequal_index Equal e same = cc
-unequal_index Greater e same = cc
-
 -- what is not yet passed is what is dropped
 run_ends :
     {m : Mono} {ts : List CoefficientTerm} {run : List Term} (rest : List CoefficientTerm) → ts ≡ row_of m (entries run) ++ rest →
@@ -74,45 +59,6 @@ run_ends {m} {ts} {run} rest whole other =
     }
 
 -- ---- the first terms with given symbols
-
-pub record IsRunning (m : Mono) (ts rest : List CoefficientTerm) : Type 0 where
-  pub done : List CoefficientTerm
-  pub whole : ts ≡ done ++ rest
-  pub same : AllHave m done
-
-pub running_start : (m : Mono) (ts : List CoefficientTerm) → IsRunning m ts ts
-running_start m ts = record { done = []; whole = refl; same = tt }
-
-have_push : (m : Mono) (ts : List CoefficientTerm) (t : CoefficientTerm) → AllHave m ts → t.symbols ≡ m → AllHave m (ts ++ t ∷ [])
-have_push m [] t all same = (same, tt)
-have_push m (u ∷ ts) t all same = (all.0, have_push m ts t all.1 same)
-
-pub running_step :
-    {m : Mono} {ts rest more : List CoefficientTerm} {t : CoefficientTerm} → rest ≡ t ∷ more → t.symbols ≡ m →
-    IsRunning m ts rest → IsRunning m ts more
-running_step {m} {ts} {rest} {more} {t} head same r = record {
-  done = r.done ++ t ∷ [];
-  whole = r.whole ∙ ap (λ us. r.done ++ us) head ∙ sym (append_assoc r.done (t ∷ []) more);
-  same = have_push m r.done t r.same same;
-}
-
-pub running_cut :
-    {m : Mono} {ts rest : List CoefficientTerm} (n : ℕ) → n ≡ length ts - length rest → IsRunning m ts rest → StartsOther m rest →
-    IsRunLength m ts n
-running_cut {m} {ts} {rest} n count r other =
-    let long : n ≡ length r.done = omega (arith, count, ap length r.whole, length-append r.done rest) in
-    record {
-      same = subst (AllHave m) (sym (ap₂ take long r.whole ∙ take-append_seam r.done rest)) r.same;
-      other = subst (StartsOther m) (sym (ap₂ drop long r.whole ∙ drop-append_seam r.done rest)) other;
-      within = omega arith;
-    }
-
-pub running_end : {m : Mono} {ts rest : List CoefficientTerm} → length rest ≡ 0 → IsRunning m ts rest → IsRunLength m ts (length ts)
-running_end {m} {ts} {rest} none r = running_cut (length ts) (omega (arith, none)) r (empty rest none)
-  where
-    empty : (us : List CoefficientTerm) → length us ≡ 0 → StartsOther m us
-    empty [] e = tt
-    empty (u ∷ us) e = absurd (omega arith)
 
 run_row : (m : Mono) (ts : List CoefficientTerm) → AllHave m ts → row_of m (entries (map without_symbols ts)) ≡ ts
 run_row m [] all = refl
@@ -221,6 +167,11 @@ next_term {ts} {out} {rest} {more} {t} {run} g head cut =
     next_of g.later t rest more run
     (back_canonical monomials polys.group (op_entries out) g.later (subst (IsCanonical monomials polys.group) g.whole (sum_of_parts ts).canonical))
     g.left head cut
+
+pub rest_written : {ts : List CoefficientTerm} {out : List OpTerm} {rest : List CoefficientTerm} → IsGathering ts out rest → IsWritten rest
+rest_written {ts} {out} {rest} g =
+    subst IsWritten (sym g.left)
+    (all_written g.later (back_canonical monomials polys.group (op_entries out) g.later (subst (IsCanonical monomials polys.group) g.whole (sum_of_parts ts).canonical)))
 
 -- ---- steps of the loop
 

@@ -22,3 +22,4 @@ pub mod ProductRules
 pub mod PairSums
 pub mod Multiples
 pub mod Expansion
+pub mod Runs

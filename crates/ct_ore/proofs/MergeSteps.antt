@@ -67,6 +67,14 @@ before_taken {ps} {qs} {out} {out'} {p} {p'} {q} {q'} {b} xs eq first whole befo
 pub left_written : {ps qs out p q : List CoefficientTerm} → IsMerging ps qs out p q → IsWritten p
 left_written {ps} {qs} {out} {p} {q} h = back_canonical by_parts int_group (keyed out) (keyed p) h.merging.left
 
+-- a term of a list that is below u
+pub below_at :
+    (ts : List CoefficientTerm) (n : ℕ) (t u : CoefficientTerm) → n < length ts → t ≡ get_or ts n t →
+    AllBelow by_parts int_group (key u) (keyed ts) → pair_cmp (key t) (key u) ≡ Less
+below_at [] n t u below at all = absurd (omega arith)
+below_at (v ∷ ts) zero t u below at all = subst (λ w. pair_cmp (key w) (key u) ≡ Less) (sym at) (less_is by_parts int_group _ all.0)
+below_at (v ∷ ts) (suc n) t u below at all = below_at ts n t u (omega arith) at all.1
+
 -- a term that comes before b has all terms above it before b too
 pub further_before :
     (b : CoefficientTerm) (ts : List CoefficientTerm) (n : ℕ) (t : CoefficientTerm) → n < length ts → t ≡ get_or ts n t →
@@ -76,13 +84,6 @@ further_before b (u ∷ ts) zero t below at written less = (subst (λ v. pair_cm
 further_before b (u ∷ ts) (suc n) t below at written less =
     let lower : pair_cmp (key t) (key u) ≡ Less = below_at ts n t u (omega arith) at written.1 in
     (by_parts.trans (key b) (key t) (key u) less lower, further_before b ts n t (omega arith) at written.2 less)
-  where
-    below_at :
-        (ts : List CoefficientTerm) (n : ℕ) (t u : CoefficientTerm) → n < length ts → t ≡ get_or ts n t →
-        AllBelow by_parts int_group (key u) (keyed ts) → pair_cmp (key t) (key u) ≡ Less
-    below_at [] n t u below at all = absurd (omega arith)
-    below_at (v ∷ ts) zero t u below at all = subst (λ w. pair_cmp (key w) (key u) ≡ Less) (sym at) (less_is by_parts int_group _ all.0)
-    below_at (v ∷ ts) (suc n) t u below at all = below_at ts n t u (omega arith) at all.1
 
 -- ---- both at one key
 

@@ -97,7 +97,7 @@ row_then m [] es h below later = later
 row_then m (d ∷ ds) es h below later =
     (h.0, AllBelow-append (m, d.0) (row_of m ds) (all_terms es) (row_below m d.0 ds h.1) (all_lower m d.0 es below), row_then m ds es h.2 below later)
 
-all_written : (es : List (Mono × Polynomial)) → IsCanonical monomials polys.group es → IsWritten (all_terms es)
+pub all_written : (es : List (Mono × Polynomial)) → IsCanonical monomials polys.group es → IsWritten (all_terms es)
 all_written [] h = tt
 all_written (e ∷ es) h = row_then e.0 e.1.terms es e.1.canonical h.1 (all_written es h.2)
 

@@ -1,11 +1,11 @@
 // Operators as lists of coefficient terms, and back.
-ghost use Rattle.std.specs.Prelude.{◌≡◌, ◌≤◌, ◌++◌, IfOk, length, map};
+ghost use Rattle.std.specs.Prelude.{◌≡◌, ◌≤◌, ◌++◌, IfOk, length, map, take};
 ghost use Rattle.ct_mono.specs.Limits.{most_terms};
 ghost use Rattle.ct_poly.specs.Terms.{entries};
 ghost use Rattle.ct_ore.specs.Terms.{op_entries};
-ghost use Rattle.ct_ore.specs.CoefficientTerms.{sum_of_parts};
+ghost use Rattle.ct_ore.specs.CoefficientTerms.{sum_of_parts, IsWritten};
 ghost use Rattle.ct_ore.specs.Measures.{row_of, all_terms};
-ghost use Rattle.ct_ore.specs.Lists.{Fits, IsRun, IsRunLength, without_symbols};
+ghost use Rattle.ct_ore.specs.Lists.{Fits, AllHave, IsRun, IsRunLength, without_symbols};
 
 use crate::coefficient_term::CoefficientTerm;
 use crate::op::OpTerm;
@@ -77,8 +77,10 @@ pub fn gathered(alloc: Global, ts: &[CoefficientTerm]) -> Result<Vec<OpTerm>, No
     Ok(out)
 }
 
-// The terms up to the first with other symbols.
+// The terms up to the first with other symbols than the first of them.
 fn run(alloc: Global, m: &Monomial, ts: &[CoefficientTerm]) -> Result<Vec<Term>, NoMemory>
+    requires written { IsWritten ts.now }
+    requires first { AllHave m.now (take 1 ts.now) }
     ensures { IfOk result (λ v. IsRun m.now ts.now v.items) }
 {
     let (front, _) = ts.split_at(run_length(m, ts));
@@ -86,18 +88,22 @@ fn run(alloc: Global, m: &Monomial, ts: &[CoefficientTerm]) -> Result<Vec<Term>,
     Ok(terms)
 }
 
-// How many terms stand before the first with other symbols.
+// How many terms stand before the first with other symbols, by halving what is left.
 fn run_length(m: &Monomial, ts: &[CoefficientTerm]) -> usize
+    requires written { IsWritten ts.now }
+    requires first { AllHave m.now (take 1 ts.now) }
     ensures { IsRunLength m.now ts.now result }
 {
-    let mut rest = ts;
-    'running: while let Some((t, more)) = rest.split_first() {
-        if t.symbols.cmp(m) != Ordering::Equal {
-            return ts.len() - rest.len();
+    let mut low = 0;
+    let mut high = ts.len();
+    'halving: while low < high {
+        let middle = low + (high - low) / 2;
+        match ts[middle].symbols.cmp(m) {
+            Ordering::Equal => low = middle + 1,
+            _ => high = middle,
         }
-        rest = more;
     }
-    ts.len()
+    low
 }
 
 // The terms without their symbols.

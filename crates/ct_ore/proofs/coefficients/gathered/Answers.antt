@@ -1,12 +1,18 @@
-use Rattle.std.proofs.Common.{◌≡◌, ◌++◌, [], ◌∷◌, rules, sym, subst, drop, length, refl}
+use Rattle.std.proofs.Common.{◌≡◌, ◌++◌, [], ◌∷◌, rules, sym, subst, take, drop, length, refl}
 use Rattle.ct_ore.specs.declared.op.OpTerm.{OpTerm}
-use Rattle.ct_ore.specs.Lists.{IsGathering}
-use Rattle.ct_ore.proofs.Gathering.{gathering_start, run_fits, gathering_step, gathering_end}
+use Rattle.ct_ore.specs.Lists.{AllHave, IsGathering}
+use Rattle.ct_ore.proofs.Gathering.{gathering_start, rest_written, run_fits, gathering_step, gathering_end}
 use Rattle.ct_ore.proofs.coefficients.gathered.Goals as goal
 
 pub gathering-init : goal.gathering-init
 gathering-init c =
     subst (λ out. IsGathering c.args.ts.now out c.args.ts.now) (sym c.new-out.ensures.items) (gathering_start c.args.ts.now c.requires)
+
+pub run-requires : goal.run-requires
+run-requires c = record {
+  written = rest_written c.gathering.invariant;
+  first = subst (λ us. AllHave c.in-Some.t.now.symbols (take 1 us)) (sym c.in-Some.ensures.cases.0) (refl, tt);
+}
 
 pub of_terms-requires : goal.of_terms-requires
 of_terms-requires c =

@@ -1,22 +1,44 @@
-use Rattle.std.proofs.Common.{◌≡◌, ◌≢◌, ◌∙◌, refl, sym, ap, subst, Equal}
-use Rattle.ct_algebra.specs.Monomial.{mono_cmp, mono_tied, mono_same}
-use Rattle.ct_ore.specs.Lists.{StartsOther}
-use Rattle.ct_ore.proofs.Gathering.{running_start, running_step, running_cut, running_end, equal_index, unequal_index}
+use Rattle.std.proofs.Common.{◌≡◌, ◌+◌, ◌-◌, ◌/◌, ◌<◌, ℕ, suc, ◌∙◌, subst, sym, ap, arith, length, take, drop}
+use Rattle.ct_algebra.specs.Monomial.{mono_cmp, mono_same, mono_tied}
+use Rattle.ct_ore.specs.declared.coefficient_term.CoefficientTerm.{CoefficientTerm}
+use Rattle.ct_ore.specs.Lists.{AllHave, StartsOther}
+use Rattle.ct_ore.proofs.Runs.{ends_other, same_before, other_at}
 use Rattle.ct_ore.proofs.coefficients.run_length.Goals as goal
 
-pub running-init : goal.running-init
-running-init c = running_start c.args.m.now c.args.ts.now
+pub halving-init : goal.halving-init
+halving-init c = record { same = tt; other = ends_other c.args.m.now c.args.ts.now; order = omega arith; within = omega arith }
 
-pub returns-then-ne : goal.returns-then-ne
-returns-then-ne c =
-    let differ : mono_cmp c.in-Some.t.now.symbols c.args.m.now ≡ Equal → ⊥ = λ same. unequal_index c.cmp.result (sym c.ne.ensures ∙ c.if-ne.true) (c.cmp.ensures ∙ same) in
-    let other : c.in-Some.t.now.symbols ≢ c.args.m.now = λ same. differ (ap (λ m. mono_cmp m c.args.m.now) same ∙ mono_same c.args.m.now) in
-    running_cut _ refl c.running.invariant (subst (StartsOther c.args.m.now) (sym c.in-Some.ensures.cases.0) other)
+pub halving-preserved-in-Equal : goal.halving-preserved-in-Equal
+halving-preserved-in-Equal c =
+    let middle : ℕ = c.halving.low + (c.halving.high - c.halving.low) / 2 in
+    let within : middle < c.halving.high = omega (arith, c.halving-test.true) in
+    let inside : middle < length c.args.ts.now = omega (arith, within, c.halving.invariant.within) in
+    let more : middle + 1 ≡ suc middle = omega arith in
+    record {
+      same = subst (λ n. AllHave c.args.m.now (take n c.args.ts.now)) (sym more)
+          (same_before c.args.m.now c.args.ts.now middle c.index-ts-middle.result inside c.index-ts-middle.is c.requires.written c.requires.first (ap (λ (t : CoefficientTerm). t.symbols) c.index-ts-middle.is ∙ mono_tied _ _ (sym c.in-Equal.ensures)));
+      other = c.halving.invariant.other;
+      order = omega (arith, within);
+      within = c.halving.invariant.within;
+    }
 
-pub running-preserved : goal.running-preserved
-running-preserved c =
-    let tied : mono_cmp c.in-Some.t.now.symbols c.args.m.now ≡ Equal = sym c.cmp.ensures ∙ equal_index c.cmp.result (sym c.ne.ensures ∙ c.if-ne.false) in
-    running_step c.in-Some.ensures.cases.0 (mono_tied _ _ tied) c.running.invariant
+pub halving-preserved : goal.halving-preserved
+halving-preserved c =
+    let middle : ℕ = c.halving.low + (c.halving.high - c.halving.low) / 2 in
+    let within : middle < c.halving.high = omega (arith, c.halving-test.true) in
+    let inside : middle < length c.args.ts.now = omega (arith, within, c.halving.invariant.within) in
+    record {
+      same = c.halving.invariant.same;
+      other = other_at c.args.m.now c.args.ts.now middle c.index-ts-middle.result inside c.index-ts-middle.is (λ same. c.in_default.not-Equal (c.cmp.ensures ∙ ap (λ s. mono_cmp s c.args.m.now) (sym (ap (λ (t : CoefficientTerm). t.symbols) c.index-ts-middle.is) ∙ same) ∙ mono_same c.args.m.now));
+      order = omega arith;
+      within = omega (arith, inside);
+    }
 
 pub returns : goal.returns
-returns c = running_end c.in_default.ensures.cases c.running.invariant
+returns c =
+    let ended : c.halving.low ≡ c.halving.high = omega (arith, c.halving-test.false, c.halving.invariant.order) in
+    record {
+      same = c.halving.invariant.same;
+      other = subst (λ n. StartsOther c.args.m.now (drop n c.args.ts.now)) (sym ended) c.halving.invariant.other;
+      within = omega (arith, c.halving.invariant.order, c.halving.invariant.within);
+    }
