@@ -91,6 +91,63 @@ fn derivations_follow_the_rule_of_leibniz(rt: HostRuntime) -> Result<(), Fail> {
 }
 
 #[test]
+fn sums_add_numbers_at_one_key(rt: HostRuntime) -> Result<(), Fail> {
+    let shift = Op::symbol(rt.alloc(), 0)?;
+    let n = name(rt.alloc(), 0)?;
+    let two = Op::of_poly(rt.alloc(), Poly::constant(rt.alloc(), 2)?)?;
+    let first = shift.add(rt.alloc(), &n)?;
+    assert!(rt; is_listed(&first, &[(1, 0, 0, 0, 1), (0, 0, 1, 0, 1)]));
+    let second = n.add(rt.alloc(), &two)?;
+    let sum = first.add(rt.alloc(), &second)?;
+    assert!(rt; is_listed(&sum, &[(1, 0, 0, 0, 1), (0, 0, 1, 0, 2), (0, 0, 0, 0, 2)]));
+    let left = sum.sub(rt.alloc(), &shift)?;
+    assert!(rt; is_listed(&left, &[(0, 0, 1, 0, 2), (0, 0, 0, 0, 2)]));
+    Ok(())
+}
+
+// the power 17 of n + 1, and a term beside one of its own
+#[test]
+fn a_term_joins_a_long_sum(rt: HostRuntime) -> Result<(), Fail> {
+    let algebra = shift_and_derivation(rt.alloc())?;
+    let n = name(rt.alloc(), 0)?;
+    let one = Op::of_poly(rt.alloc(), Poly::constant(rt.alloc(), 1)?)?;
+    let base = n.add(rt.alloc(), &one)?;
+    let mut power = one;
+    for _turn in 0..17 {
+        power = power.mul(rt.alloc(), &algebra, &base)?;
+    }
+    let square = n.mul(rt.alloc(), &algebra, &n)?;
+    let cube = square.mul(rt.alloc(), &algebra, &n)?;
+    let sum = power.add(rt.alloc(), &cube)?;
+    assert!(rt;
+        is_listed(
+            &sum,
+            &[
+                (0, 0, 17, 0, 1),
+                (0, 0, 16, 0, 17),
+                (0, 0, 15, 0, 136),
+                (0, 0, 14, 0, 680),
+                (0, 0, 13, 0, 2380),
+                (0, 0, 12, 0, 6188),
+                (0, 0, 11, 0, 12376),
+                (0, 0, 10, 0, 19448),
+                (0, 0, 9, 0, 24310),
+                (0, 0, 8, 0, 24310),
+                (0, 0, 7, 0, 19448),
+                (0, 0, 6, 0, 12376),
+                (0, 0, 5, 0, 6188),
+                (0, 0, 4, 0, 2380),
+                (0, 0, 3, 0, 681),
+                (0, 0, 2, 0, 136),
+                (0, 0, 1, 0, 17),
+                (0, 0, 0, 0, 1)
+            ]
+        )
+    );
+    Ok(())
+}
+
+#[test]
 fn combinations_add_products(rt: HostRuntime) -> Result<(), Fail> {
     let algebra = shift_and_derivation(rt.alloc())?;
     let mut cofactors = Vec::new(rt.alloc());
@@ -138,5 +195,30 @@ fn products_overflow_by_degree_and_number(rt: HostRuntime) -> Result<(), Fail> {
     let scaled = large.mul(rt.alloc(), &algebra, &n)?;
     let passed = shift.mul(rt.alloc(), &algebra, &scaled);
     assert!(rt; matches!(passed, Err(Fault::Overflow(Kind::Number))));
+    Ok(())
+}
+
+// 1024 times 1024 terms are as many as there may be, so that the numbers before them are judged next
+#[test]
+fn products_overflow_by_the_count_of_pairs(rt: HostRuntime) -> Result<(), Fail> {
+    let algebra = shift_and_derivation(rt.alloc())?;
+    let shift = Op::symbol(rt.alloc(), 0)?;
+    let one = Poly::constant(rt.alloc(), 1)?;
+    let derivations = Op::of_term(rt.alloc(), one, &Monomial::one().with_exp(1, 1023))?;
+    let symbols = shift.mul(rt.alloc(), &algebra, &derivations)?;
+    let n = Op::of_poly(
+        rt.alloc(),
+        Poly::monomial(rt.alloc(), &Monomial::one().with_exp(0, 1023))?,
+    )?;
+    let x = Op::of_poly(
+        rt.alloc(),
+        Poly::monomial(rt.alloc(), &Monomial::one().with_exp(1, 1023))?,
+    )?;
+    let most = n.mul(rt.alloc(), &algebra, &x)?;
+    let passed = symbols.mul(rt.alloc(), &algebra, &most);
+    assert!(rt; matches!(passed, Err(Fault::Overflow(Kind::Number))));
+    let more = name(rt.alloc(), 0)?.mul(rt.alloc(), &algebra, &most)?;
+    let refused = symbols.mul(rt.alloc(), &algebra, &more);
+    assert!(rt; matches!(refused, Err(Fault::Overflow(Kind::Terms))));
     Ok(())
 }
