@@ -1,0 +1,10 @@
+use Rattle.std.proofs.Common.{◌≡◌, ◌++◌, drop}
+use Rattle.std.specs.Prelude.{flat_map, false}
+use Rattle.ct_ore.specs.Terms.{op_entries}
+use Rattle.ct_answer.specs.Text.{operator_entry_text}
+use Rattle.ct_answer.proofs.operator.push_op_terms.Given as goal
+
+abbrev pub invariant-loop-term : goal.invariant-loop-term
+invariant-loop-term l =
+    l.out.items ++ flat_map (operator_entry_text l.algebra false) (op_entries (drop l.term-index l.others)) ≡
+    l.initial.out.items ++ flat_map (operator_entry_text l.algebra false) (op_entries l.others)

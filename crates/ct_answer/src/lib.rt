@@ -1,0 +1,15 @@
+//! Polynomials and operators as text.
+//!
+//! The terms fall. A term is its number and its powers joined by `*`, as in `-2*n^2*S[n]`, and a coefficient of
+//! several terms stands in parentheses, as in `(n + 1)*S[n]^2 - 3*n`. `specs/Text.antt` says the rest.
+#![tactic(auto)]
+
+mod factors;
+mod operator;
+mod polynomial;
+#[cfg(test)]
+mod tests;
+
+pub use ct_mono::NoMemory;
+pub use operator::print_op;
+pub use polynomial::print_poly;

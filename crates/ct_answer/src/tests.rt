@@ -1,0 +1,85 @@
+// Texts by hand. The name n has a shift, and x a derivation.
+ghost use Rattle.std.specs.Prelude.{◌<◌};
+
+use crate::{print_op, print_poly};
+use ct_mono::NoMemory;
+use ct_ore::{Action, Algebra, NameInfo, Op, Role};
+use ct_poly::Poly;
+use std::alloc::Global;
+use std::test::Fail;
+
+fn shift_and_derivation(alloc: Global) -> Result<Algebra, NoMemory> {
+    let n = NameInfo {
+        text: String::from_str(alloc, "n")?,
+        action: Action::Shift,
+        role: Role::Free,
+    };
+    let x = NameInfo {
+        text: String::from_str(alloc, "x")?,
+        action: Action::Derive,
+        role: Role::Summed,
+    };
+    let mut names = Vec::new(alloc);
+    names.push(n)?;
+    names.push(x)?;
+    Ok(Algebra::new(names))
+}
+
+fn name(alloc: Global, i: u8) -> Result<Op, NoMemory>
+    requires { i < 6 }
+{
+    Op::of_poly(alloc, Poly::name(alloc, i)?)
+}
+
+fn number(alloc: Global, n: u8) -> Result<Op, NoMemory> {
+    Op::of_poly(alloc, Poly::constant(alloc, i128::from(n))?)
+}
+
+#[test]
+fn operators_are_written_by_falling_terms(rt: HostRuntime) -> Result<(), Fail> {
+    let alloc = rt.alloc();
+    let algebra = shift_and_derivation(alloc)?;
+    let shift = Op::symbol(alloc, 0)?;
+    let derivation = Op::symbol(alloc, 1)?;
+    let next = name(alloc, 0)?.add(alloc, &number(alloc, 1)?)?;
+    let triple = number(alloc, 3)?.mul(alloc, &algebra, &name(alloc, 0)?)?;
+    let square = shift.mul(alloc, &algebra, &shift)?;
+    let sum = next.mul(alloc, &algebra, &square)?.sub(alloc, &triple)?;
+    let text = print_op(alloc, &algebra, &sum)?;
+    assert_eq!(rt; text.as_slice(), b"(n + 1)*S[n]^2 - 3*n".as_slice());
+    let negative = Op::zero(alloc).sub(alloc, &next)?;
+    let mixed = shift.add(alloc, &negative.mul(alloc, &algebra, &derivation)?)?;
+    let text = print_op(alloc, &algebra, &mixed)?;
+    assert_eq!(rt; text.as_slice(), b"S[n] + (-n - 1)*D[x]".as_slice());
+    let product = triple.mul(alloc, &algebra, &square.mul(alloc, &algebra, &derivation)?)?;
+    let last = Op::zero(alloc).sub(alloc, &product)?.sub(alloc, &shift)?;
+    let text = print_op(alloc, &algebra, &last)?;
+    assert_eq!(rt; text.as_slice(), b"-3*n*S[n]^2*D[x] - S[n]".as_slice());
+    let text = print_op(alloc, &algebra, &Op::zero(alloc))?;
+    assert_eq!(rt; text.as_slice(), b"0".as_slice());
+    Ok(())
+}
+
+#[test]
+fn polynomials_are_written_by_falling_terms(rt: HostRuntime) -> Result<(), Fail> {
+    let alloc = rt.alloc();
+    let algebra = shift_and_derivation(alloc)?;
+    let n = Poly::name(alloc, 0)?;
+    let x = Poly::name(alloc, 1)?;
+    let one = Poly::constant(alloc, 1)?;
+    let product = n.mul(alloc, &n)?.mul(alloc, &x)?;
+    let sum = one.sub(alloc, &product)?.sub(alloc, &x)?;
+    let text = print_poly(alloc, &algebra, &sum)?;
+    assert_eq!(rt; text.as_slice(), b"-n^2*x - x + 1".as_slice());
+    let greatest = Poly::constant(alloc, i128::MAX)?;
+    let text = print_poly(alloc, &algebra, &greatest.mul(alloc, &n)?)?;
+    assert_eq!(rt;
+        text.as_slice(),
+        b"170141183460469231731687303715884105727*n".as_slice()
+    );
+    let text = print_poly(alloc, &algebra, &one.neg(alloc)?)?;
+    assert_eq!(rt; text.as_slice(), b"-1".as_slice());
+    let text = print_poly(alloc, &algebra, &Poly::zero(alloc))?;
+    assert_eq!(rt; text.as_slice(), b"0".as_slice());
+    Ok(())
+}
