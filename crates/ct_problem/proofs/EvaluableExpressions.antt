@@ -181,7 +181,7 @@ module _ (names : List Naming) (few : length names ≤ 6) where
 
     Makes-factors : (n : ℕ) (found : List Expr) → Each (IsFor operators) found → Makes names (factors_from operators inner n found) (IsFor operators)
     unfolding factors_from
-    Makes-factors zero found each = Makes-pure names (IsFor operators) (product_of found) (product_of-is operators found each)
+    Makes-factors zero found each = Makes-refuse names (IsFor operators)
     Makes-factors (suc n) found each =
         Makes-bind names (IsFor operators) (IsFor operators) (factor operators inner) _ Makes-factor (λ x h.
         Makes-bind names Anything (IsFor operators) (eat 42) _ (Makes-eat names 42) (λ more _.

@@ -11,3 +11,9 @@ pub mod EvaluableExpressions
 pub mod SummedActions
 pub mod WellFormedForms
 pub mod PolynomialValues
+pub mod LexemeSteps
+pub mod Spelling
+pub mod SpelledExpressions
+pub mod SpelledLines
+pub mod SpelledNames
+pub mod SpelledForms

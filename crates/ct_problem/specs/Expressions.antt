@@ -100,7 +100,7 @@ module _ (operators : Bool) (nested : Parser Expr) where
 
   -- The number bounds the turns, and each takes a token.
   unfoldable pub factors_from : ℕ → List Expr → Parser Expr
-  factors_from zero found = pure (product_of found)
+  factors_from zero found = refuse
   factors_from (suc n) found = do
     x ← factor
     more ← eat 42

@@ -1,4 +1,7 @@
 pub mod Plain
+pub mod Lexemes
+pub mod Grammar
+pub mod GrammarLines
 pub mod Input
 pub mod Cursor
 pub mod Number

@@ -120,7 +120,7 @@ impl<F: Fn(Global, &mut Tokens<'_>, bool, usize) -> Result<Expr, ReadFault>> Gra
                 return Ok(product_of(found));
             }
         }
-        Ok(product_of(found))
+        Err(ReadFault::NotYet)
     }
 
     #[tactic(auto, unfolding(crate::specs::Expressions::factor))]
