@@ -17,3 +17,11 @@ pub mod SpelledExpressions
 pub mod SpelledLines
 pub mod SpelledNames
 pub mod SpelledForms
+pub mod Taking
+pub mod LexemeStarts
+pub mod TakenAtoms
+pub mod TakenExpressions
+pub mod TakenLines
+pub mod TakenReports
+pub mod TakenNames
+pub mod TakenForms

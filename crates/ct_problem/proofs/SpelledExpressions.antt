@@ -40,7 +40,7 @@ module _ (names : List Naming) (operators : Bool) where
   record Acts (action : Action) (x : Expr) (ls : List Lexeme) : Type 0 where
     letters : List ℕ
     at : ℕ
-    acting : IsActing names operators action letters at
+    acting : IsActing names action letters at
     value : x ≡ e.Symbol at
     spelled : one (Word letters) ls
 

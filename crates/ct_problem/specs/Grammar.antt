@@ -27,7 +27,7 @@ abbrev pub sum_of : Bool → Expr → List Term → Expr
 sum_of false first [] = first
 sum_of negative first more = e.Sum (summand negative first ∷ map (λ t. summand t.0 t.1) more)
 
-module _ (names : List Naming) (operators : Bool) where
+module _ (names : List Naming) where
   -- the first declared name of these letters has this number; `S` and `D` name nothing
   pub record IsVariable (letters : List ℕ) (at : ℕ) : Type 0 where
     pub no_shift : letters ≢ codes "S"
@@ -38,44 +38,45 @@ module _ (names : List Naming) (operators : Bool) where
   abbrev pub IsActing : Action → List ℕ → ℕ → Type 0
   IsActing action letters at = position (is_wanted (Some action) letters) names ≡ Some at
 
-  -- what may stand in parentheses, with them, is a parameter
-  module _ (InParentheses : Expr → Texts) where
-    pub data IsAtom (x : Expr) (ls : List Lexeme) : Type 0 where
-      whole : (n : ℕ) → x ≡ e.Whole (pos n) → number largest_norm n ls → IsAtom x ls
-      variable : (name : List ℕ) (at : ℕ) → IsVariable name at → x ≡ e.Name at → one (Word name) ls → IsAtom x ls
-      shift : (name : List ℕ) (at : ℕ) → IsTrue operators → IsActing Shift name at → x ≡ e.Symbol at → (one (Word (codes "S")) ▸ one (Sign 91) ▸ one (Word name) ▸ one (Sign 93)) ls → IsAtom x ls
-      derivation : (name : List ℕ) (at : ℕ) → IsTrue operators → IsActing Derive name at → x ≡ e.Symbol at → (one (Word (codes "D")) ▸ one (Sign 91) ▸ one (Word name) ▸ one (Sign 93)) ls → IsAtom x ls
-      nested : InParentheses x ls → IsAtom x ls
+  module _ (operators : Bool) where
+    -- what may stand in parentheses, with them, is a parameter
+    module _ (InParentheses : Expr → Texts) where
+      pub data IsAtom (x : Expr) (ls : List Lexeme) : Type 0 where
+        whole : (n : ℕ) → x ≡ e.Whole (pos n) → number largest_norm n ls → IsAtom x ls
+        variable : (name : List ℕ) (at : ℕ) → IsVariable name at → x ≡ e.Name at → one (Word name) ls → IsAtom x ls
+        shift : (name : List ℕ) (at : ℕ) → IsTrue operators → IsActing Shift name at → x ≡ e.Symbol at → (one (Word (codes "S")) ▸ one (Sign 91) ▸ one (Word name) ▸ one (Sign 93)) ls → IsAtom x ls
+        derivation : (name : List ℕ) (at : ℕ) → IsTrue operators → IsActing Derive name at → x ≡ e.Symbol at → (one (Word (codes "D")) ▸ one (Sign 91) ▸ one (Word name) ▸ one (Sign 93)) ls → IsAtom x ls
+        nested : InParentheses x ls → IsAtom x ls
 
-    pub data IsFactor (x : Expr) (ls : List Lexeme) : Type 0 where
-      plain : IsAtom x ls → IsFactor x ls
-      power : (base : Expr) (n : ℕ) → x ≡ e.Power base n → (IsAtom base ▸ one (Sign 94) ▸ number largest_degree n) ls → IsFactor x ls
+      pub data IsFactor (x : Expr) (ls : List Lexeme) : Type 0 where
+        plain : IsAtom x ls → IsFactor x ls
+        power : (base : Expr) (n : ℕ) → x ≡ e.Power base n → (IsAtom base ▸ one (Sign 94) ▸ number largest_degree n) ls → IsFactor x ls
 
-    -- `* FACTOR`
-    abbrev pub IsMoreFactor : Expr → Texts
-    IsMoreFactor x = one (Sign 42) ▸ IsFactor x
+      -- `* FACTOR`
+      abbrev pub IsMoreFactor : Expr → Texts
+      IsMoreFactor x = one (Sign 42) ▸ IsFactor x
 
-    pub record IsTerm (x : Expr) (ls : List Lexeme) : Type 0 where
-      pub first : Expr
-      pub more : List Expr
-      pub value : x ≡ product_of (first ∷ more)
-      pub spelled : (IsFactor first ▸ each IsMoreFactor more) ls
+      pub record IsTerm (x : Expr) (ls : List Lexeme) : Type 0 where
+        pub first : Expr
+        pub more : List Expr
+        pub value : x ≡ product_of (first ∷ more)
+        pub spelled : (IsFactor first ▸ each IsMoreFactor more) ls
 
-    -- `+ TERM` or `- TERM`
-    abbrev pub IsMoreTerm : Term → Texts
-    IsMoreTerm t = one (Sign (if t.0 then 45 else 43)) ▸ IsTerm t.1
+      -- `+ TERM` or `- TERM`
+      abbrev pub IsMoreTerm : Term → Texts
+      IsMoreTerm t = one (Sign (if t.0 then 45 else 43)) ▸ IsTerm t.1
 
-    pub record IsSum (x : Expr) (ls : List Lexeme) : Type 0 where
-      pub negative : Bool
-      pub first : Expr
-      pub more : List Term
-      pub value : x ≡ sum_of negative first more
-      pub spelled : (optional (Sign 45) negative ▸ IsTerm first ▸ each IsMoreTerm more) ls
+      pub record IsSum (x : Expr) (ls : List Lexeme) : Type 0 where
+        pub negative : Bool
+        pub first : Expr
+        pub more : List Term
+        pub value : x ≡ sum_of negative first more
+        pub spelled : (optional (Sign 45) negative ▸ IsTerm first ▸ each IsMoreTerm more) ls
 
-  -- an expression in parentheses, so many of which may be open at once
-  unfoldable pub IsNested : ℕ → Expr → Texts
-  IsNested zero x ls = ⊥
-  IsNested (suc depth) x ls = (one (Sign 40) ▸ IsSum (IsNested depth) x ▸ one (Sign 41)) ls
+    -- an expression in parentheses, so many of which may be open at once
+    unfoldable pub IsNested : ℕ → Expr → Texts
+    IsNested zero x ls = ⊥
+    IsNested (suc depth) x ls = (one (Sign 40) ▸ IsSum (IsNested depth) x ▸ one (Sign 41)) ls
 
-  abbrev pub IsExpression : Expr → Texts
-  IsExpression x = IsSum (IsNested 64) x
+    abbrev pub IsExpression : Expr → Texts
+    IsExpression x = IsSum (IsNested 64) x

@@ -20,6 +20,7 @@
 -- declared before and isn't `S` or `D`; `sum` declares a shift and `int` a derivation, both summed. At most four names have
 -- operators, and one to three are summed. Numbers may have zeros in front.
 --     StandsFor bytes form     the bytes are the lines of this problem, followed by those of this report
+--     StandsForNone bytes      they are those of no problem and report
 use Rattle.std.specs.Prelude.{◌≡◌, ◌<◌, ◌≤◌, ℕ, ◌+◌, Bool, true, false, List, [], ◌∷◌, ◌++◌, length, None, IsTrue, codes}
 use Rattle.ct_token.specs.Lexical.{scan_of}
 use Rattle.ct_algebra.specs.Actions.{Action, Shift, Derive, Still}
@@ -138,3 +139,6 @@ pub record StandsFor (bytes : List ℕ) (form : FirstForm) : Type 0 where
   pub few_generators : length form.problem.generators ≤ 16
   pub a_cofactor_each : length form.report.cofactors ≡ length form.problem.generators
   pub lines : (problem form.problem ▸ report form.problem.algebra form.report) (lexemes bytes (scan_of bytes 0).tokens)
+
+abbrev pub StandsForNone : List ℕ → Type 0
+StandsForNone bytes = (form : FirstForm) → StandsFor bytes form → ⊥

@@ -15,3 +15,4 @@ pub mod FirstForm
 pub mod Value
 pub mod WellFormed
 pub mod ValueLaws
+pub mod GrammarLaws

@@ -1,10 +1,11 @@
 // Reading a text in the first form.
-ghost use Rattle.std.specs.Prelude.{◌≡◌, ◌≤◌, length, IfOk};
+ghost use Rattle.std.specs.Prelude.{◌≡◌, ◌≤◌, length, IfOk, IfErr};
 ghost use Rattle.std.specs.Str.{IsAscii};
 ghost use Rattle.ct_ore.specs.Naming.{IsAlgebra, namings_of};
 ghost use Rattle.ct_problem.specs.FirstForm as spec;
 ghost use Rattle.ct_problem.specs.FirstForm.{Gives};
-ghost use Rattle.ct_problem.specs.GrammarLines.{StandsFor};
+ghost use Rattle.ct_problem.specs.GrammarLines.{StandsFor, StandsForNone};
+ghost use Rattle.ct_problem.specs.declared.fault.ReadFault.TheVariants.{NotYet};
 ghost use Rattle.ct_problem.specs.Input.{ReadsBy, input_at};
 ghost use Rattle.ct_problem.specs.WellFormed.{IsWellFormed};
 ghost use Rattle.ct_token.specs.Lexing.{AreTokens};
@@ -35,7 +36,8 @@ use std::alloc::Global;
 pub fn read_first_form(alloc: Global, text: &[u8]) -> Result<FirstForm, ReadFault>
     ensures reads { Gives (spec.first_form_of text.now) result }
     ensures formed { IfOk result IsWellFormed }
-    ensures grammar { IfOk result (StandsFor text.now) }
+    ensures accepts { IfOk result (StandsFor text.now) }
+    ensures refuses { IfErr result (λ e. e ≡ NotYet → StandsForNone text.now) }
 {
     if !is_plain(text) {
         return Err(ReadFault::NotYet);

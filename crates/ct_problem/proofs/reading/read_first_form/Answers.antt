@@ -5,6 +5,7 @@ use Rattle.ct_token.proofs.TokenPlaces.{scans_are_tokens}
 use Rattle.ct_problem.specs.FirstForm.{Gives, first_form_of}
 use Rattle.ct_problem.proofs.WellFormedForms.{gives_well_formed}
 use Rattle.ct_problem.proofs.SpelledForms.{gives_spelled}
+use Rattle.ct_problem.proofs.TakenForms.{gives_none}
 use Rattle.ct_problem.proofs.reading.read_first_form.Goals as goal
 
 pub problem_and_report-requires-clause-lexed : goal.problem_and_report-requires-clause-lexed
@@ -18,8 +19,14 @@ returns-clause-formed c =
     let read : Gives (first_form_of c.args.text.now) c.problem_and_report.result = first_of (search rules, grind (arith, common_steps)) in
     gives_well_formed c.args.text.now c.problem_and_report.result read
 
-pub returns-clause-grammar : goal.returns-clause-grammar
+pub returns-clause-accepts : goal.returns-clause-accepts
 unfolding first_form_of
-returns-clause-grammar c =
+returns-clause-accepts c =
     let read : Gives (first_form_of c.args.text.now) c.problem_and_report.result = first_of (search rules, grind (arith, common_steps)) in
     gives_spelled c.args.text.now c.problem_and_report.result read
+
+pub returns-clause-refuses : goal.returns-clause-refuses
+unfolding first_form_of
+returns-clause-refuses c =
+    let read : Gives (first_form_of c.args.text.now) c.problem_and_report.result = first_of (search rules, grind (arith, common_steps)) in
+    gives_none c.args.text.now c.problem_and_report.result read
