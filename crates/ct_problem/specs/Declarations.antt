@@ -11,6 +11,7 @@ use Rattle.ct_algebra.specs.Actions as actions
 use Rattle.ct_ore.specs.Naming.{Naming, has_operator}
 use Rattle.ct_ore.specs.declared.algebra.Role.{Role}
 use Rattle.ct_ore.specs.declared.algebra.Role.TheVariants as role
+unfoldable pub use Rattle.ct_problem.specs.DeclaredNames.{is_new, with_text, summed_texts, is_algebra}
 use Rattle.ct_problem.specs.declared.reading.declarations.NameLine.{NameLine}
 use Rattle.ct_problem.specs.declared.reading.declarations.NameLine.TheVariants.{Free, Sum, Int, Param}
 use Rattle.ct_problem.specs.Input.{Input, Parser, ◌>>=◌, ◌>>◌, pure, refuse, skip, spelling, symbol, sees_word, eat_word, expect_word, line_end, is_wanted}
@@ -22,13 +23,6 @@ name_line i =
     else (if sees_word (codes "sum") i then Some Sum
     else (if sees_word (codes "int") i then Some Int
     else (if sees_word (codes "param") i then Some Param else None)))
-
--- a text that a name may have after these names
-unfoldable pub is_new : List ℕ → List Naming → Bool
-is_new text found =
-    nat_le (length text) 32
-    && (not (bytes_eq text (codes "S") || bytes_eq text (codes "D"))
-    && is_none (position (is_wanted None text) found))
 
 abbrev pub is_word_symbol : Option Symbol → Bool
 is_word_symbol (Some Word) = true
@@ -73,21 +67,6 @@ declarations_by more found (Some line) = more line
 unfoldable pub declarations_from : ℕ → List Naming → Parser (List Naming)
 declarations_from zero found = pure found
 declarations_from (suc n) found = λ i. declarations_by (λ line. do naming ← declaration line found; declarations_from n (found ++ naming ∷ [])) found (name_line i) i
-
-abbrev pub with_text : Role → List ℕ → List (List ℕ) → List (List ℕ)
-with_text role.Summed text texts = text ∷ texts
-with_text role.Free text texts = texts
-with_text role.Param text texts = texts
-
--- the texts of the summed names, in order
-abbrev pub summed_texts : List Naming → List (List ℕ)
-summed_texts [] = []
-summed_texts (n ∷ ns) = with_text n.role n.text (summed_texts ns)
-
--- as many operators and summed names as there may be, and something to sum over
-unfoldable pub is_algebra : List Naming → Bool
-is_algebra names =
-    nat_le (count_by has_operator names) 4 && (nat_le (length (summed_texts names)) 3 && nat_le 1 (length (summed_texts names)))
 
 abbrev pub most_names : ℕ
 most_names = 6

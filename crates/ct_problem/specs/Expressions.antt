@@ -14,7 +14,8 @@ use Rattle.ct_token.specs.declared.token.Symbol.{Symbol}
 use Rattle.ct_token.specs.declared.token.Symbol.TheVariants.{Word, Number, Sign}
 use Rattle.ct_problem.specs.declared.expr.Expr.{Expr}
 use Rattle.ct_problem.specs.declared.expr.Expr.TheVariants as e
-use Rattle.ct_problem.specs.declared.expr.Summand.{Summand, roll-Summand}
+use Rattle.ct_problem.specs.declared.expr.Summand.{Summand}
+unfoldable pub use Rattle.ct_problem.specs.Grammar.{product_of, summand}
 use Rattle.ct_problem.specs.Input.{Input, Parser, ◌>>=◌, ◌>>◌, ◌<$>◌, pure, refuse, peek, skip, eat, expect, sees, sees_word, symbol, place_of_name}
 use Rattle.ct_problem.specs.Number.{number}
 
@@ -57,16 +58,6 @@ word operators = λ i. word_by operators (letter i) i
 
 unfoldable pub whole : Parser Expr
 whole = (λ n. e.Whole (pos n)) <$> number largest_norm
-
--- a product of one factor is that factor
-unfoldable pub product_of : List Expr → Expr
-product_of [] = e.Product []
-product_of (only ∷ []) = only
-product_of (first ∷ second ∷ more) = e.Product (first ∷ second ∷ more)
-
--- a term with its sign
-abbrev pub summand : Bool → Expr → Summand
-summand negative expr = roll-Summand (record { negative = negative; expr = expr })
 
 -- `+` or `-`, which says whether the term after it is negative
 unfoldable pub joint : Parser (Option Bool)

@@ -8,17 +8,30 @@
 -- coefficient, exponents at most the greatest degree, and at most 64 parentheses are open at once. A name is the first that was
 -- declared with its letters; `S` stands before a shift, `D` before a derivation. A polynomial has neither.
 --     IsExpression names operators x ls     these lexemes are an EXPR that stands for x, with operators or without
-use Rattle.std.specs.Prelude.{◌≡◌, ◌≢◌, ℕ, zero, suc, Bool, false, if◌then◌else◌, List, [], ◌∷◌, map, position, Some, None, IsTrue, pos, codes}
+use Rattle.std.specs.Prelude.{◌≡◌, ◌≢◌, ℕ, zero, suc, Bool, true, false, if◌then◌else◌, List, [], ◌∷◌, map, position, Some, None, IsTrue, pos, codes}
 use Rattle.ct_algebra.specs.Actions.{Action, Shift, Derive}
 use Rattle.ct_mono.specs.Limits.{largest_degree, largest_norm}
 use Rattle.ct_ore.specs.Naming.{Naming}
 use Rattle.ct_problem.specs.declared.expr.Expr.{Expr}
 use Rattle.ct_problem.specs.declared.expr.Expr.TheVariants as e
-use Rattle.ct_problem.specs.Input.{is_wanted}
-use Rattle.ct_problem.specs.Expressions.{product_of, summand}
-use Rattle.ct_problem.specs.Lexemes.{Lexeme, Word, Sign, Texts, one, optional, number, ◌▸◌, each}
+use Rattle.ct_problem.specs.declared.expr.Summand.{Summand, roll-Summand}
+use Rattle.ct_problem.specs.DeclaredNames.{is_wanted}
+use Rattle.ct_problem.specs.Lexemes.{Lexeme, Word, Sign, Texts, nothing, one, optional, number, ◌▸◌, each}
+use Rattle.ct_problem.specs.Signs.{plus, minus, star, caret, open_parenthesis, close_parenthesis, open_bracket, close_bracket}
 
--- a term and whether it is negative
+-- ---- values
+
+-- a product of one factor is that factor
+unfoldable pub product_of : List Expr → Expr
+product_of [] = e.Product []
+product_of (only ∷ []) = only
+product_of (first ∷ second ∷ more) = e.Product (first ∷ second ∷ more)
+
+-- a term with its sign
+abbrev pub summand : Bool → Expr → Summand
+summand negative expr = roll-Summand (record { negative = negative; expr = expr })
+
+-- whether a term is negative, and the term
 abbrev pub Term : Type 0
 Term = Bool × Expr
 
@@ -26,6 +39,12 @@ Term = Bool × Expr
 abbrev pub sum_of : Bool → Expr → List Term → Expr
 sum_of false first [] = first
 sum_of negative first more = e.Sum (summand negative first ∷ map (λ t. summand t.0 t.1) more)
+
+-- ---- names
+
+-- `S[NAME]` or `D[NAME]`, by the letters
+abbrev pub symbol : List ℕ → List ℕ → Texts
+symbol letter name = one (Word letter) ▸ one (Sign open_bracket) ▸ one (Word name) ▸ one (Sign close_bracket)
 
 module _ (names : List Naming) where
   -- the first declared name of these letters has this number; `S` and `D` name nothing
@@ -38,23 +57,25 @@ module _ (names : List Naming) where
   abbrev pub IsActing : Action → List ℕ → ℕ → Type 0
   IsActing action letters at = position (is_wanted (Some action) letters) names ≡ Some at
 
+  -- ---- the rules
+
   module _ (operators : Bool) where
     -- what may stand in parentheses, with them, is a parameter
     module _ (InParentheses : Expr → Texts) where
       pub data IsAtom (x : Expr) (ls : List Lexeme) : Type 0 where
         whole : (n : ℕ) → x ≡ e.Whole (pos n) → number largest_norm n ls → IsAtom x ls
         variable : (name : List ℕ) (at : ℕ) → IsVariable name at → x ≡ e.Name at → one (Word name) ls → IsAtom x ls
-        shift : (name : List ℕ) (at : ℕ) → IsTrue operators → IsActing Shift name at → x ≡ e.Symbol at → (one (Word (codes "S")) ▸ one (Sign 91) ▸ one (Word name) ▸ one (Sign 93)) ls → IsAtom x ls
-        derivation : (name : List ℕ) (at : ℕ) → IsTrue operators → IsActing Derive name at → x ≡ e.Symbol at → (one (Word (codes "D")) ▸ one (Sign 91) ▸ one (Word name) ▸ one (Sign 93)) ls → IsAtom x ls
+        shift : (name : List ℕ) (at : ℕ) → IsTrue operators → IsActing Shift name at → x ≡ e.Symbol at → symbol (codes "S") name ls → IsAtom x ls
+        derivation : (name : List ℕ) (at : ℕ) → IsTrue operators → IsActing Derive name at → x ≡ e.Symbol at → symbol (codes "D") name ls → IsAtom x ls
         nested : InParentheses x ls → IsAtom x ls
 
       pub data IsFactor (x : Expr) (ls : List Lexeme) : Type 0 where
         plain : IsAtom x ls → IsFactor x ls
-        power : (base : Expr) (n : ℕ) → x ≡ e.Power base n → (IsAtom base ▸ one (Sign 94) ▸ number largest_degree n) ls → IsFactor x ls
+        power : (base : Expr) (n : ℕ) → x ≡ e.Power base n → (IsAtom base ▸ one (Sign caret) ▸ number largest_degree n) ls → IsFactor x ls
 
       -- `* FACTOR`
       abbrev pub IsMoreFactor : Expr → Texts
-      IsMoreFactor x = one (Sign 42) ▸ IsFactor x
+      IsMoreFactor x = one (Sign star) ▸ IsFactor x
 
       pub record IsTerm (x : Expr) (ls : List Lexeme) : Type 0 where
         pub first : Expr
@@ -64,19 +85,19 @@ module _ (names : List Naming) where
 
       -- `+ TERM` or `- TERM`
       abbrev pub IsMoreTerm : Term → Texts
-      IsMoreTerm t = one (Sign (if t.0 then 45 else 43)) ▸ IsTerm t.1
+      IsMoreTerm t = one (Sign (if t.0 then minus else plus)) ▸ IsTerm t.1
 
       pub record IsSum (x : Expr) (ls : List Lexeme) : Type 0 where
         pub negative : Bool
         pub first : Expr
         pub more : List Term
         pub value : x ≡ sum_of negative first more
-        pub spelled : (optional (Sign 45) negative ▸ IsTerm first ▸ each IsMoreTerm more) ls
+        pub spelled : (optional (Sign minus) negative ▸ IsTerm first ▸ each IsMoreTerm more) ls
 
     -- an expression in parentheses, so many of which may be open at once
     unfoldable pub IsNested : ℕ → Expr → Texts
     IsNested zero x ls = ⊥
-    IsNested (suc depth) x ls = (one (Sign 40) ▸ IsSum (IsNested depth) x ▸ one (Sign 41)) ls
+    IsNested (suc depth) x ls = (one (Sign open_parenthesis) ▸ IsSum (IsNested depth) x ▸ one (Sign close_parenthesis)) ls
 
     abbrev pub IsExpression : Expr → Texts
     IsExpression x = IsSum (IsNested 64) x

@@ -33,8 +33,9 @@ use Rattle.ct_problem.specs.declared.first_form.Problem.{Problem}
 use Rattle.ct_problem.specs.declared.first_form.Quotient.{Quotient}
 use Rattle.ct_problem.specs.declared.first_form.Report.{Report}
 use Rattle.ct_problem.specs.Plain.{is_plain}
-use Rattle.ct_problem.specs.Declarations.{is_new, is_algebra, summed_texts}
+use Rattle.ct_problem.specs.DeclaredNames.{is_new, is_algebra, summed_texts}
 use Rattle.ct_problem.specs.Lexemes.{Word, Number, Sign, Dots, LineEnd, Texts, nothing, one, number, ◌▸◌, each, lexemes}
+use Rattle.ct_problem.specs.Signs.{colon}
 use Rattle.ct_problem.specs.Grammar.{IsExpression}
 
 -- no list at all
@@ -81,13 +82,13 @@ module _ (names : List Naming) where
 
   -- of a name with this text
   abbrev pub part : List ℕ → Bool → List ℕ → Expr → Texts
-  part key operators text x = one (Word key) ▸ one (Word text) ▸ one (Sign 58) ▸ value operators x
+  part key operators text x = one (Word key) ▸ one (Word text) ▸ one (Sign colon) ▸ value operators x
 
   abbrev pub quotient : List ℕ → Quotient → Texts
   quotient text q = part (codes "numerator") true text q.numerator ▸ part (codes "denominator") false text q.denominator
 
   abbrev pub cofactor : ℕ → Expr → Texts
-  cofactor place x = one (Word (codes "cofactor")) ▸ one (Number place) ▸ one (Sign 58) ▸ value true x
+  cofactor place x = one (Word (codes "cofactor")) ▸ one (Number place) ▸ one (Sign colon) ▸ value true x
 
   abbrev pub cofactors : ℕ → List Expr → Texts
   cofactors place [] = nothing

@@ -17,6 +17,7 @@ use Rattle.ct_token.specs.declared.token.Token.{Token}
 use Rattle.ct_algebra.specs.Actions.{Action}
 use Rattle.ct_algebra.specs.Actions as actions
 use Rattle.ct_ore.specs.Naming.{Naming}
+pub use Rattle.ct_problem.specs.DeclaredNames.{is_named, same_action, is_wanted}
 use Rattle.ct_problem.specs.declared.fault.ReadFault.{ReadFault}
 use Rattle.ct_problem.specs.declared.fault.ReadFault.TheVariants.{NotYet}
 
@@ -71,22 +72,6 @@ is_word _ spelled word = false
 
 unfoldable pub sees_word : List ℕ → Input → Bool
 sees_word word i = is_word (symbol i) (spelling i) word
-
--- ---- names by their text
-
-abbrev pub is_named : List ℕ → Naming → Bool
-is_named text n = bytes_eq text n.text
-
-abbrev pub same_action : Action → Action → Bool
-same_action actions.Shift actions.Shift = true
-same_action actions.Derive actions.Derive = true
-same_action actions.Still actions.Still = true
-same_action _ _ = false
-
--- a name of this text, and of this action where one is wanted
-abbrev pub is_wanted : Option Action → List ℕ → Naming → Bool
-is_wanted None text n = is_named text n
-is_wanted (Some action) text n = is_named text n && same_action n.action action
 
 -- the number of the name that the next token spells
 abbrev pub place_of_name : Option Action → Input → Option ℕ

@@ -1,7 +1,10 @@
 pub mod Plain
 pub mod Lexemes
+pub mod Signs
+pub mod DeclaredNames
 pub mod Grammar
 pub mod GrammarLines
+pub mod GrammarLaws
 pub mod Input
 pub mod Cursor
 pub mod Number
@@ -15,4 +18,3 @@ pub mod FirstForm
 pub mod Value
 pub mod WellFormed
 pub mod ValueLaws
-pub mod GrammarLaws

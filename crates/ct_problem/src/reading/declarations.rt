@@ -109,7 +109,7 @@ fn is_new_name(tokens: &Tokens<'_>, found: &[NameInfo]) -> bool
     }
 }
 
-#[tactic(auto, unfolding(crate::specs::Declarations::is_new))]
+#[tactic(auto, unfolding(crate::specs::DeclaredNames::is_new))]
 fn is_new(text: &[u8], found: &[NameInfo]) -> bool
     ensures { result ≡ spec.is_new text.now (namings_of found.now) }
 {
@@ -159,7 +159,7 @@ fn role(line: NameLine) -> Role
     }
 }
 
-#[tactic(auto, unfolding(crate::specs::Declarations::is_algebra))]
+#[tactic(auto, unfolding(crate::specs::DeclaredNames::is_algebra))]
 fn is_algebra(alloc: Global, names: &[NameInfo]) -> Result<bool, NoMemory>
     ensures { IfOk result (λ b. b ≡ spec.is_algebra (namings_of names.now)) }
 {

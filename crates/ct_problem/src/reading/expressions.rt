@@ -235,7 +235,7 @@ fn joint(tokens: &mut Tokens<'_>) -> Option<bool>
     }
 }
 
-#[tactic(auto, unfolding(crate::specs::Expressions::product_of))]
+#[tactic(auto, unfolding(crate::specs::Grammar::product_of))]
 fn product_of(mut found: Items<Expr>) -> Expr
     ensures { result ≡ spec.product_of found }
 {
