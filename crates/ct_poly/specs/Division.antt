@@ -1,0 +1,100 @@
+-- Exact division of polynomials, as a checked loop on leading terms (this project's own rules of overflow).
+--     whole_over c d          the whole number that times d is c, or none
+--     term_over e d           the same of terms: both monomials and coefficients divide
+--     Dividing                a state: what is left of the dividend, and the sum of the terms found so far
+--     next_term f s           the leading term of the rest over that of f; none where the rest is zero, or it does not divide
+--     step_overflow f u s     the kind of the first rule that one more term u breaks, or none
+--     checked_step f u s      the rest loses u times f, and the quotient gains u
+--     checked_quotient p f    all steps: the quotient where nothing is left at the end, or none
+--     quotient p f            the same, where a division that overflows counts as none
+-- Some(q) has q·f = p, and none says that no polynomial times f is p: laws `checked_quotient_is`, `checked_quotient_none`
+-- and `quotient_is`, in the lemmas on division. A divisor that is zero divides zero alone.
+use Rattle.std.specs.Prelude.{ℕ, suc, zero, ◌+◌, ◌*◌, ℤ, nat_abs, cond, ltb, Ok, Err, None, Some, int_div, int_rem}
+use Rattle.std.proofs.Common.{Option}
+use Rattle.ct_algebra.specs.Leading.{leading}
+use Rattle.ct_algebra.specs.Monomial.{Mono}
+use Rattle.ct_algebra.specs.Polynomial.{Polynomial, polys, plus, times, count, norm}
+use Rattle.ct_algebra.specs.Substitution.{term}
+use Rattle.ct_algebra.specs.WholeNumbers.{int_is_zero}
+use Rattle.ct_mono.specs.Checked.{Checked, verdict, ◌>>=◌}
+use Rattle.ct_mono.specs.Division.{over}
+use Rattle.ct_mono.specs.Limits.{most_terms, largest_norm}
+use Rattle.ct_mono.specs.Loop.{run}
+use Rattle.ct_mono.specs.Rank.{mono_rank}
+use Rattle.ct_mono.specs.declared.fault.Kind.{Kind}
+use Rattle.ct_mono.specs.declared.fault.Kind.TheVariants.{Terms, Number}
+use Rattle.ct_poly.specs.Measures.{minus, broken}
+
+-- ---- terms
+
+-- the quotient of whole numbers, where no remainder is left
+unfoldable pub whole_over : ℤ → ℤ → Option ℤ
+whole_over c d = cond (int_is_zero (int_rem c d)) (Some (int_div c d)) None
+
+-- both quotients, where there are both
+abbrev pub both_over : Option Mono → Option ℤ → Option (Mono × ℤ)
+both_over (Some t) (Some q) = Some (t, q)
+both_over (Some t) None = None
+both_over None o = None
+
+abbrev pub term_over : Mono × ℤ → Mono × ℤ → Option (Mono × ℤ)
+term_over e d = both_over (over e.0 d.0) (whole_over e.1 d.1)
+
+-- ---- one step
+
+pub record Dividing : Type 0 where
+  pub rest : Polynomial
+  pub quotient : Polynomial
+
+abbrev pub leading_over : Option (Mono × ℤ) → Option (Mono × ℤ) → Option (Mono × ℤ)
+leading_over (Some e) (Some d) = term_over e d
+leading_over (Some e) None = None
+leading_over None o = None
+
+unfoldable pub next_term : Polynomial → Dividing → Option (Mono × ℤ)
+next_term f s = leading_over (leading s.rest.terms) (leading f.terms)
+
+unfoldable pub step_overflow : Polynomial → Mono × ℤ → Dividing → Option Kind
+step_overflow f u s =
+    broken (ltb most_terms (count s.rest + count f)) Terms
+    (broken (ltb most_terms (count s.quotient + 1)) Terms
+    (broken (ltb largest_norm (nat_abs u.1 * norm f)) Number
+    (broken (ltb largest_norm (norm s.rest + nat_abs u.1 * norm f)) Number
+    (broken (ltb largest_norm (norm s.quotient + nat_abs u.1)) Number None))))
+
+-- the rest without u times f, and the quotient with u
+unfoldable pub step_of : Polynomial → Mono × ℤ → Dividing → Dividing
+step_of f u s = record { rest = minus s.rest (times (term u.0 u.1) f); quotient = plus s.quotient (term u.0 u.1) }
+
+unfoldable pub checked_step : Polynomial → Mono × ℤ → Dividing → Checked Dividing
+checked_step f u s = verdict (step_overflow f u s) (step_of f u s)
+
+-- ---- all steps
+
+-- it falls in each step, since the leading monomial does
+abbrev pub leading_rank : Option (Mono × ℤ) → ℕ
+leading_rank None = zero
+leading_rank (Some e) = suc (mono_rank e.0)
+
+unfoldable pub dividing_rank : Dividing → ℕ
+dividing_rank s = leading_rank (leading s.rest.terms)
+
+-- nothing is done yet
+abbrev pub whole_dividend : Polynomial → Dividing
+whole_dividend p = record { rest = p; quotient = polys.zero }
+
+-- the quotient, where nothing is left
+unfoldable pub found_quotient : Dividing → Option Polynomial
+found_quotient s = cond (polys.is_zero s.rest) (Some s.quotient) None
+
+unfoldable pub checked_quotient : Polynomial → Polynomial → Checked (Option Polynomial)
+checked_quotient p f =
+    run dividing_rank (next_term f) (checked_step f) (whole_dividend p) >>= (λ s. Ok (found_quotient s))
+
+-- an overflow is no quotient
+abbrev pub value_or_none : Checked (Option Polynomial) → Option Polynomial
+value_or_none (Ok o) = o
+value_or_none (Err kind) = None
+
+unfoldable pub quotient : Polynomial → Polynomial → Option Polynomial
+quotient p f = value_or_none (checked_quotient p f)
