@@ -11,3 +11,8 @@ pub mod ShiftValues
 pub mod Shifts
 pub mod PowerTables
 pub mod Within
+pub mod WholeQuotients
+pub mod Contents
+pub mod CommonMonomials
+pub mod DividedTerms
+pub mod PrimitiveParts

@@ -1,0 +1,110 @@
+-- The content: its divisors are the common divisors of the coefficients. Main lemmas `content_is` and `content_only`, which
+-- the law on contents and the loop of `content_of_terms` cite.
+-- A greatest common divisor of the coefficients exists, and every common divisor divides it; so the greatest of them is it.
+use Rattle.std.proofs.Common.{◌≡◌, ◌↔◌, refl, ℕ, zero, suc, ◌≤◌, ◌<◌, ◌%◌, ℤ, pos, unsigned_abs, Bool, true, false, cond, eqb, ◌&&◌, List, [], ◌∷◌, sum_by, sym, ◌∙◌, ap, subst, arith, eqb-true, eq-eqb}
+use Rattle.std.proofs.lemmas.Bool.{eqb-false}
+use Rattle.std.specs.Int.{◌∣◌, IsGcd}
+use Rattle.std.specs.List.{list_all}
+use Rattle.std.proofs.lemmas.List.Sums.{sum_by-cons}
+use Rattle.std.proofs.lemmas.Nat.Gcd.{le_of_dvd, dvd_refl, dvd_trans, dvd_antisymm, dvd-zero, dvd_of_mod-eq-zero, mod-eq-zero_of_dvd}
+use Rattle.std.proofs.Math.Nat.{eq-zero_of_zero-dvd}
+use Rattle.ct_algebra.specs.Laws.Terms.{not_zero}
+use Rattle.ct_algebra.specs.Monomial.{Mono, monomials}
+use Rattle.ct_algebra.specs.Terms.{EachTerm, IsCanonical}
+use Rattle.ct_algebra.specs.WholeNumbers.{int_group}
+use Rattle.ct_algebra.specs.Polynomial.{Polynomial, norm, norm_of}
+use Rattle.ct_int.proofs.GcdLaws.{gcd-exists}
+use Rattle.ct_poly.specs.Content.{DividesEach, divides_each, greatest_up_to, content}
+use Rattle.ct_poly.proofs.WholeQuotients.{zero_abs}
+
+abbrev pub DividesAll : ℕ → List (Mono × ℤ) → Type 0
+DividesAll d es = EachTerm (λ m c. d ∣ unsigned_abs c) es
+
+-- the divisors of g are the common divisors of the coefficients
+abbrev pub IsContentOf : List (Mono × ℤ) → ℕ → Type 0
+IsContentOf es g = (d : ℕ) → (d ∣ g) ↔ DividesAll d es
+
+some_content : (es : List (Mono × ℤ)) → (g : ℕ) × IsContentOf es g
+some_content [] = (0, λ d. (λ h. tt, λ h. dvd-zero d))
+some_content (e ∷ es) = more (some_content es)
+  where
+    more : (g : ℕ) × IsContentOf es g → (g : ℕ) × IsContentOf (e ∷ es) g
+    more (g, is) =
+        let both = gcd-exists (unsigned_abs e.1) g in
+        (both.divisor, λ d. (λ h. (dvd_trans d h both.greatest.0, (is d).0 (dvd_trans d h both.greatest.1)), λ h. both.greatest.2 d h.0 ((is d).1 h.1)))
+
+-- ---- the test
+
+test_each : (d : ℕ) (es : List (Mono × ℤ)) → divides_each d es ≡ true → DividesAll d es
+test_each d [] passes = tt
+test_each d (e ∷ es) passes = by (eqb (unsigned_abs e.1 % d) 0) refl passes (test_each d es)
+  where
+    by : (b : Bool) → eqb (unsigned_abs e.1 % d) 0 ≡ b → (b && divides_each d es) ≡ true → (divides_each d es ≡ true → DividesAll d es) → DividesAll d (e ∷ es)
+    by true first passes rest = (dvd_of_mod-eq-zero d (eqb-true _ 0 first), rest passes)
+    by false first passes rest = cc
+
+each_test : (d : ℕ) (es : List (Mono × ℤ)) → DividesAll d es → divides_each d es ≡ true
+each_test d [] all = refl
+each_test d (e ∷ es) all = ap (λ b. b && divides_each d es) (eq-eqb _ 0 (mod-eq-zero_of_dvd d all.0)) ∙ each_test d es all.1
+
+-- ---- the greatest number
+
+abbrev Below : ℕ → List (Mono × ℤ) → ℕ → Type 0
+Below n es r = (d : ℕ) → d ≤ n → DividesAll d es → d ≤ r
+
+greatest_is_above : (n : ℕ) (es : List (Mono × ℤ)) → Below n es (greatest_up_to n es)
+greatest_is_above zero es = λ d small all. small
+greatest_is_above (suc n) es = by (divides_each (suc n) es) refl (greatest_is_above n es)
+  where
+    by : (b : Bool) → divides_each (suc n) es ≡ b → Below n es (greatest_up_to n es) → Below (suc n) es (cond b (suc n) (greatest_up_to n es))
+    by true test lower d small all = small
+    by false test lower d small all = last (eqb d (suc n)) refl
+      where
+        last : (b : Bool) → eqb d (suc n) ≡ b → d ≤ greatest_up_to n es
+        last true same =
+            let passes : divides_each (suc n) es ≡ true = each_test (suc n) es (subst (λ k. DividesAll k es) (eqb-true d (suc n) same) all) in cc
+        last false other = lower d (omega (arith, small, eqb-false d (suc n) other)) all
+
+greatest_divides : (n : ℕ) (es : List (Mono × ℤ)) → 0 < greatest_up_to n es → DividesAll (greatest_up_to n es) es
+greatest_divides zero es some = absurd (omega arith)
+greatest_divides (suc n) es some = by (divides_each (suc n) es) refl some (greatest_divides n es)
+  where
+    by : (b : Bool) → divides_each (suc n) es ≡ b → 0 < cond b (suc n) (greatest_up_to n es)
+        → (0 < greatest_up_to n es → DividesAll (greatest_up_to n es) es) → DividesAll (cond b (suc n) (greatest_up_to n es)) es
+    by true test some lower = test_each (suc n) es test
+    by false test some lower = lower some
+
+-- ---- it is the one whose divisors are the common ones
+
+greatest_is : (es : List (Mono × ℤ)) (g : ℕ) → IsCanonical monomials int_group es → IsContentOf es g → g ≡ greatest_up_to (norm_of es) es
+greatest_is [] g canonical is = eq-zero_of_zero-dvd ((is 0).1 tt)
+greatest_is (e ∷ es) g canonical is =
+    let all : DividesAll g (e ∷ es) = (is g).0 (dvd_refl g) in
+    let some : 0 < unsigned_abs e.1 = positive in
+    let bounded : g ≤ unsigned_abs e.1 = le_of_dvd some all.0 in
+    let within : g ≤ norm_of (e ∷ es) = omega (arith, bounded, sum_by-cons (λ d. unsigned_abs d.1) e es) in
+    let above : g ≤ greatest_up_to (norm_of (e ∷ es)) (e ∷ es) = greatest_is_above (norm_of (e ∷ es)) (e ∷ es) g within all in
+    let more : 0 < g = nonzero g all.0 some in
+    let below : greatest_up_to (norm_of (e ∷ es)) (e ∷ es) ∣ g = (is _).1 (greatest_divides (norm_of (e ∷ es)) (e ∷ es) (omega (arith, above, more))) in
+    omega (arith, above, le_of_dvd more below)
+  where
+    positive : 0 < unsigned_abs e.1
+    positive = by (unsigned_abs e.1) refl
+      where
+        by : (n : ℕ) → unsigned_abs e.1 ≡ n → 0 < unsigned_abs e.1
+        by zero none = absurd (not_zero monomials int_group e.1 canonical.0 (zero_abs e.1 none))
+        by (suc n) some = omega (arith, some)
+
+    nonzero : (g : ℕ) → g ∣ unsigned_abs e.1 → 0 < unsigned_abs e.1 → 0 < g
+    nonzero zero divides some = let none = eq-zero_of_zero-dvd divides in absurd (omega (arith, none))
+    nonzero (suc g) divides some = omega arith
+
+pub content_only : (p : Polynomial) (g : ℕ) → IsContentOf p.terms g → g ≡ content p
+unfolding content norm
+content_only p g is = greatest_is p.terms g p.canonical is
+
+pub content_is : (p : Polynomial) → IsContentOf p.terms (content p)
+content_is p = by (some_content p.terms)
+  where
+    by : (g : ℕ) × IsContentOf p.terms g → IsContentOf p.terms (content p)
+    by (g, is) = subst (IsContentOf p.terms) (content_only p g is) is

@@ -1,0 +1,114 @@
+-- A polynomial whose terms are all divided by one term. Main lemmas `divided_whole` (times the term it is the polynomial),
+-- `divided_terms` (its terms are the quotients) and `divided_is_listed`, which the loop of `divided_terms` cites.
+-- The list of the quotients times the term is the list of the terms; so it falls as that does.
+use Rattle.std.proofs.Common.{◌≡◌, refl, ℕ, zero, suc, ◌*◌, ◌≤◌, ◌<◌, ℤ, pos, ◌*ℤ◌, int_div, nat_abs, true, false, cond, T, List, [], ◌∷◌, map, length, sym, ◌∙◌, ap, ap₂, subst, arith, Less}
+use lib.IntN.{*ℤ_comm}
+use Rattle.ct_algebra.specs.Monomial.{Mono, monomials, mono_ordered, mono_cmp, ◌·◌, ·_comm}
+use Rattle.ct_algebra.specs.Terms.{AllBelow, IsCanonical, EachTerm, is_less}
+use Rattle.ct_algebra.specs.Laws.Terms.{not_zero}
+use Rattle.ct_algebra.specs.Ring.{mul_zero}
+use Rattle.ct_algebra.specs.WholeNumbers.{int_group, int_ring, int_is_zero}
+use Rattle.ct_algebra.specs.Substitution.{term}
+use Rattle.ct_algebra.specs.Polynomial.{Polynomial, poly_of, times, norm_of, terms-poly_of}
+use Rattle.ct_algebra.proofs.TermLists.{row_of, poly_of-row}
+use Rattle.ct_mono.specs.Division.{Divides}
+use Rattle.ct_poly.specs.declared.term.Term.{Term}
+use Rattle.ct_poly.specs.Terms.{entries, size_of, IsFalling, IsListOf, poly_of_terms}
+use Rattle.ct_poly.specs.Content.{term_divided, divided}
+use Rattle.ct_poly.proofs.CommonMonomials.{divides_exp, without, without-·}
+use Rattle.ct_poly.proofs.TermLists.{rebuilt, poly_of-single, terms_of, norm_of-row, norm_of-entries, length-entries, length-row, nonzero_coef}
+use Rattle.ct_poly.proofs.WholeQuotients.{int_div-*, positive_abs}
+
+-- a term divides another
+abbrev pub Goes : Mono → ℤ → Mono → ℤ → Type 0
+Goes m d k c = Divides m k × ((q : ℤ) × (q *ℤ d ≡ c))
+
+abbrev pub quotients : Mono → ℤ → List (Mono × ℤ) → List (Mono × ℤ)
+quotients m d es = map (term_divided m d) es
+
+-- a factor of a number that is not zero is not zero
+pub divisor_nonzero : (q d c : ℤ) → q *ℤ d ≡ c → T (cond (int_is_zero c) false true) → d ≡ pos 0 → ⊥
+divisor_nonzero q d c whole some none =
+    not_zero monomials int_group c some (sym whole ∙ ap (λ w. q *ℤ w) none ∙ mul_zero int_ring q)
+
+-- the quotients times the term are the terms
+pub row-quotients :
+    (m : Mono) (d : ℤ) (es : List (Mono × ℤ)) → IsCanonical monomials int_group es → EachTerm (Goes m d) es →
+    row_of (m, d) (quotients m d es) ≡ es
+row-quotients m d [] canonical each = refl
+row-quotients m d (e ∷ es) canonical each =
+    ap₂ (λ x xs. x ∷ xs)
+    (ap₂ (λ k c. (k, c)) (·_comm m (without m e.0) ∙ without-· m e.0 (divides_exp m e.0 each.0.0)) (by each.0.1))
+    (row-quotients m d es canonical.2 each.1)
+  where
+    by : (q : ℤ) × (q *ℤ d ≡ e.1) → d *ℤ int_div e.1 d ≡ e.1
+    by (q, whole) =
+        let some = divisor_nonzero q d e.1 whole canonical.0 in
+        ap (λ c. d *ℤ int_div c d) (sym whole) ∙ ap (λ k. d *ℤ k) (int_div-* q d some) ∙ *ℤ_comm d q ∙ whole
+
+-- ---- a row falls only where the list does
+
+up_cmp : (m x y : Mono) → mono_cmp (m · x) (m · y) ≡ mono_cmp x y
+up_cmp m x y = ap₂ mono_cmp (·_comm m x) (·_comm m y) ∙ mono_ordered.shifted m x y
+
+below_back : (e : Mono × ℤ) (n : Mono) (fs : List (Mono × ℤ)) → AllBelow monomials int_group (e.0 · n) (row_of e fs) → AllBelow monomials int_group n fs
+below_back e n [] below = tt
+below_back e n (f ∷ fs) below = (subst (λ r. T (is_less r)) (up_cmp e.0 f.0 n) below.0, below_back e n fs below.1)
+
+pub canonical_back : (e : Mono × ℤ) (fs : List (Mono × ℤ)) → IsCanonical monomials int_group (row_of e fs) → IsCanonical monomials int_group fs
+canonical_back e [] canonical = tt
+canonical_back e (f ∷ fs) canonical = (
+  nonzero_coef f.1 (λ none. not_zero monomials int_group (e.1 *ℤ f.1) canonical.0 (ap (λ c. e.1 *ℤ c) none ∙ mul_zero int_ring e.1)),
+  below_back e f.0 fs canonical.1,
+  canonical_back e fs canonical.2,
+)
+
+canonical-quotients :
+    (m : Mono) (d : ℤ) (es : List (Mono × ℤ)) → IsCanonical monomials int_group es → EachTerm (Goes m d) es →
+    IsCanonical monomials int_group (quotients m d es)
+canonical-quotients m d es canonical each =
+    canonical_back (m, d) (quotients m d es) (subst (IsCanonical monomials int_group) (sym (row-quotients m d es canonical each)) canonical)
+
+-- ---- the polynomial
+
+pub divided_terms : (m : Mono) (d : ℤ) (p : Polynomial) → EachTerm (Goes m d) p.terms → (divided m d p).terms ≡ quotients m d p.terms
+unfolding divided
+divided_terms m d p each = terms-poly_of _ (canonical-quotients m d p.terms p.canonical each)
+
+pub divided_whole : (m : Mono) (d : ℤ) (p : Polynomial) → EachTerm (Goes m d) p.terms → times (term m d) (divided m d p) ≡ p
+unfolding divided
+divided_whole m d p each =
+    ap (λ w. times w (poly_of (quotients m d p.terms))) (sym (poly_of-single m d)) ∙ sym (poly_of-row (m, d) (quotients m d p.terms))
+    ∙ ap poly_of (row-quotients m d p.terms p.canonical each) ∙ rebuilt p
+
+-- ---- the list
+
+size-quotients : (m : Mono) (d : ℤ) (es : List (Mono × ℤ)) → IsCanonical monomials int_group es → EachTerm (Goes m d) es → norm_of (quotients m d es) ≤ norm_of es
+size-quotients m d [] canonical each = omega arith
+size-quotients m d (e ∷ es) canonical each = by each.0.1
+  where
+    at_most : (n a b : ℕ) → 0 < n → n * a ≡ b → a ≤ b
+    at_most zero a b some same = absurd (omega arith)
+    at_most (suc n) a b some same = omega arith
+
+    by : (q : ℤ) × (q *ℤ d ≡ e.1) → norm_of (quotients m d (e ∷ es)) ≤ norm_of (e ∷ es)
+    by (q, whole) =
+        let some : 0 < nat_abs d = positive_abs d (divisor_nonzero q d e.1 whole canonical.0) in
+        let size : nat_abs d * norm_of (quotients m d (e ∷ es)) ≡ norm_of (e ∷ es) =
+        sym (norm_of-row (m, d) (quotients m d (e ∷ es))) ∙ ap norm_of (row-quotients m d (e ∷ es) canonical each) in
+        at_most (nat_abs d) _ _ some size
+
+length-quotients : (m : Mono) (d : ℤ) (es : List (Mono × ℤ)) → length (quotients m d es) ≡ length es
+length-quotients m d [] = refl
+length-quotients m d (e ∷ es) = ap (λ n. suc n) (length-quotients m d es)
+
+pub divided_is_listed :
+    {p : Polynomial} (m : Mono) (d : ℤ) (ts v : List Term) → IsFalling ts → poly_of_terms ts ≡ p → EachTerm (Goes m d) (entries ts) →
+    entries v ≡ quotients m d (entries ts) → IsListOf (divided m d p) (length ts) (size_of ts) v
+unfolding divided poly_of_terms
+divided_is_listed {p} m d ts v falling value each made = record {
+  falling = subst (IsCanonical monomials int_group) (sym made) (canonical-quotients m d (entries ts) falling each);
+  value = ap poly_of (made ∙ ap (quotients m d) (terms_of ts falling (unfold poly_of_terms in value)));
+  few = omega (arith, length-entries v, ap length made, length-quotients m d (entries ts), length-entries ts);
+  small = omega (arith, norm_of-entries v, ap norm_of made, size-quotients m d (entries ts) falling each, norm_of-entries ts);
+}
