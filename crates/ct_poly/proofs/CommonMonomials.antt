@@ -1,11 +1,17 @@
 -- The common monomial: the monomials that divide it are those that divide every term. Main lemmas `common_divides` and
 -- `common_greatest`. A monomial divides another exactly where no exponent is greater, and the exponents here are the least.
-use Rattle.std.proofs.Common.{◌≡◌, refl, ℕ, zero, suc, ◌+◌, ◌-◌, ◌≤◌, ◌<◌, min, ℤ, List, [], ◌∷◌, sym, ◌∙◌, ap, subst, arith}
+use Rattle.std.proofs.Common.{◌≡◌, refl, ℕ, zero, suc, ◌+◌, ◌-◌, ◌≤◌, ◌<◌, min, ℤ, Bool, true, false, eqb, List, [], ◌∷◌, length, sym, ◌∙◌, ap, subst, arith, eqb-true}
+use Rattle.std.proofs.lemmas.Bool.{eqb-false}
 use Rattle.std.proofs.Math.Nat.{min-le_left, min-le_right, le-min}
-use Rattle.ct_algebra.specs.Monomial.{Mono, exp, mono, exp-mono, exp-·, same_mono, ◌·◌}
+use Rattle.ct_algebra.specs.Monomial.{Mono, exp, mono, exp-mono, exp-·, same_mono, unit, ◌·◌}
 use Rattle.ct_algebra.specs.Terms.{EachTerm, EachTerm-weaker}
 use Rattle.ct_algebra.specs.Polynomial.{Polynomial}
 use Rattle.ct_mono.specs.Division.{Divides}
+use Rattle.ct_mono.specs.Exponents.{with_exponent}
+use Rattle.ct_mono.proofs.ExponentLaws.{exp-with_exponent_same, exp-with_exponent_other}
+use Rattle.ct_poly.specs.declared.term.Term.{Term}
+use Rattle.ct_poly.specs.Terms.{entries}
+use Rattle.ct_poly.proofs.TermLists.{no_length}
 use Rattle.ct_poly.specs.Content.{least_exp_from, least_exp, common_monomial}
 
 -- ---- division by exponents
@@ -71,3 +77,54 @@ common_greatest p t e es full each =
     let all = EachTerm-weaker (λ m c d. divides_exp t m d i small) p.terms each in
     let least : exp t i ≤ least_exp i (e ∷ es) = least_greatest (exp t i) i e es (subst (EachTerm (λ m c. exp t i ≤ exp m i)) full all) in
     omega (arith, least, ap (λ ds. least_exp i ds) full, exp-mono (λ i. least_exp i p.terms) i small))
+
+-- ---- the loop
+
+-- the least of the exponents of m and those of the rest is that of all
+pub record IsLowering (ts : List Term) (m : Mono) (rest : List Term) : Type 0 where
+  pub same : (i : ℕ) → i < 6 → least_exp_from (exp m i) i (entries rest) ≡ least_exp i (entries ts)
+
+pub least_of_none : (ts : List Term) (m : Mono) → length ts ≡ 0 → m ≡ unit → m ≡ mono (λ i. least_exp i (entries ts))
+unfolding unit
+least_of_none ts m empty one = one ∙ ap (λ w. mono (λ i. least_exp i (entries w))) (sym (no_length ts empty))
+
+pub least_start : {ts more : List Term} {t : Term} → ts ≡ t ∷ more → IsLowering ts t.mono more
+least_start {ts} {more} {t} full = record { same = λ i small. ap (λ w. least_exp i (entries w)) (sym full) }
+
+pub least_more :
+    {ts rest more : List Term} {t : Term} {m n : Mono} → rest ≡ t ∷ more →
+    ((i : ℕ) → i < 6 → exp n i ≡ min (exp m i) (exp t.mono i)) → IsLowering ts m rest → IsLowering ts n more
+least_more {ts} {rest} {more} {t} {m} {n} rest_is least before =
+    let g : IsLowering ts m (t ∷ more) = subst (IsLowering ts m) rest_is before in
+    record { same = λ i small. ap (λ k. least_exp_from k i (entries more)) (least i small) ∙ g.same i small }
+
+pub least_all : {ts rest : List Term} {m : Mono} → length rest ≡ 0 → IsLowering ts m rest → m ≡ mono (λ i. least_exp i (entries ts))
+least_all {ts} {rest} {m} empty before =
+    let end : IsLowering ts m [] = subst (IsLowering ts m) (no_length rest empty) before in
+    same_mono _ _ (λ i small. end.same i small ∙ sym (exp-mono (λ i. least_exp i (entries ts)) i small))
+
+-- the names so far have the least exponent of m and n, the others that of m
+pub record IsMeeting (m n least : Mono) (i : ℕ) : Type 0 where
+  pub done : (k : ℕ) → k < 6 → k < i → exp least k ≡ min (exp m k) (exp n k)
+  pub left : (k : ℕ) → k < 6 → i ≤ k → exp least k ≡ exp m k
+
+pub meeting_more :
+    {m n least next : Mono} {i e : ℕ} → i < 6 → e ≡ min (exp m i) (exp n i) → next ≡ with_exponent i e least →
+    IsMeeting m n least i → IsMeeting m n next (i + 1)
+meeting_more {m} {n} {least} {next} {i} {e} small e_is next_is meeting = record {
+  done = λ k low before. ap (λ w. exp w k) next_is ∙ below k low before (eqb k i) refl;
+  left = λ k low after. ap (λ w. exp w k) next_is ∙ exp-with_exponent_other i e least k low (λ same. absurd (omega (arith, same))) ∙ meeting.left k low (omega arith);
+}
+  where
+    below : (k : ℕ) → k < 6 → k < i + 1 → (b : Bool) → eqb k i ≡ b → exp (with_exponent i e least) k ≡ min (exp m k) (exp n k)
+    below k low before true same =
+        let at : k ≡ i = eqb-true k i same in
+        ap (exp (with_exponent i e least)) at ∙ exp-with_exponent_same i e least small ∙ e_is ∙ ap (λ j. min (exp m j) (exp n j)) (sym at)
+    below k low before false other =
+        let apart = eqb-false k i other in
+        exp-with_exponent_other i e least k low apart ∙ meeting.done k low (omega (arith, apart))
+
+-- what times d is m, is the monomial of the differences
+pub without_is : (d m t : Mono) → t · d ≡ m → t ≡ without d m
+without_is d m t whole =
+    same_mono _ _ (λ i small. omega (arith, ap (λ w. exp w i) whole, exp-· t d i small, exp-mono (λ i. exp m i - exp d i) i small))

@@ -1,7 +1,7 @@
 -- The content: its divisors are the common divisors of the coefficients. Main lemmas `content_is` and `content_only`, which
 -- the law on contents and the loop of `content_of_terms` cite.
 -- A greatest common divisor of the coefficients exists, and every common divisor divides it; so the greatest of them is it.
-use Rattle.std.proofs.Common.{◌≡◌, ◌↔◌, refl, ℕ, zero, suc, ◌≤◌, ◌<◌, ◌%◌, ℤ, pos, unsigned_abs, Bool, true, false, cond, eqb, ◌&&◌, List, [], ◌∷◌, sum_by, sym, ◌∙◌, ap, subst, arith, eqb-true, eq-eqb}
+use Rattle.std.proofs.Common.{◌≡◌, ◌↔◌, refl, ℕ, zero, suc, ◌≤◌, ◌<◌, ◌%◌, ℤ, pos, unsigned_abs, Bool, true, false, cond, eqb, ◌&&◌, List, [], ◌∷◌, length, sum_by, sym, ◌∙◌, ap, subst, arith, eqb-true, eq-eqb}
 use Rattle.std.proofs.lemmas.Bool.{eqb-false}
 use Rattle.std.specs.Int.{◌∣◌, IsGcd}
 use Rattle.std.specs.List.{list_all}
@@ -14,15 +14,11 @@ use Rattle.ct_algebra.specs.Terms.{EachTerm, IsCanonical}
 use Rattle.ct_algebra.specs.WholeNumbers.{int_group}
 use Rattle.ct_algebra.specs.Polynomial.{Polynomial, norm, norm_of}
 use Rattle.ct_int.proofs.GcdLaws.{gcd-exists}
-use Rattle.ct_poly.specs.Content.{DividesEach, divides_each, greatest_up_to, content}
+use Rattle.ct_poly.specs.Content.{DividesAll, IsContentOf, divides_each, greatest_up_to, content}
+use Rattle.ct_poly.specs.declared.term.Term.{Term}
+use Rattle.ct_poly.specs.Terms.{entries}
+use Rattle.ct_poly.proofs.TermLists.{no_length}
 use Rattle.ct_poly.proofs.WholeQuotients.{zero_abs}
-
-abbrev pub DividesAll : ℕ → List (Mono × ℤ) → Type 0
-DividesAll d es = EachTerm (λ m c. d ∣ unsigned_abs c) es
-
--- the divisors of g are the common divisors of the coefficients
-abbrev pub IsContentOf : List (Mono × ℤ) → ℕ → Type 0
-IsContentOf es g = (d : ℕ) → (d ∣ g) ↔ DividesAll d es
 
 some_content : (es : List (Mono × ℤ)) → (g : ℕ) × IsContentOf es g
 some_content [] = (0, λ d. (λ h. tt, λ h. dvd-zero d))
@@ -108,3 +104,41 @@ content_is p = by (some_content p.terms)
   where
     by : (g : ℕ) × IsContentOf p.terms g → IsContentOf p.terms (content p)
     by (g, is) = subst (IsContentOf p.terms) (content_only p g is) is
+
+pub content_small : (p : Polynomial) → content p ≤ norm p
+unfolding content
+content_small p = up_to (norm p) p.terms
+  where
+    up_to : (n : ℕ) (es : List (Mono × ℤ)) → greatest_up_to n es ≤ n
+    up_to zero es = omega arith
+    up_to (suc n) es = by (divides_each (suc n) es) (up_to n es)
+      where
+        by : (b : Bool) → greatest_up_to n es ≤ n → cond b (suc n) (greatest_up_to n es) ≤ suc n
+        by true lower = omega arith
+        by false lower = omega arith
+
+-- ---- the loop
+
+pub record IsGathering (ts : List Term) (g : ℕ) (rest : List Term) : Type 0 where
+  pub same : (d : ℕ) → ((d ∣ g) × DividesAll d (entries rest)) ↔ DividesAll d (entries ts)
+
+pub gathering_start : (ts : List Term) → IsGathering ts 0 ts
+gathering_start ts = record { same = λ d. (λ both. both.1, λ all. (dvd-zero d, all)) }
+
+-- one more coefficient
+pub gathered :
+    {ts rest more : List Term} {t : Term} {g a h : ℕ} → rest ≡ t ∷ more → a ≡ unsigned_abs t.coef → IsGcd a g h →
+    IsGathering ts g rest → IsGathering ts h more
+gathered {ts} {rest} {more} {t} {g} {a} {h} rest_is size common before =
+    let g : IsGathering ts g (t ∷ more) = subst (IsGathering ts g) rest_is before in
+    record {
+      same = λ d. (
+        λ both. (g.same d).0 (dvd_trans d both.0 common.1, (subst (λ n. d ∣ n) size (dvd_trans d both.0 common.0), both.1)),
+        λ all. let both = (g.same d).1 all in (common.2 d (subst (λ n. d ∣ n) (sym size) both.1.0) both.0, both.1.1),
+      );
+    }
+
+pub gathered_all : {ts rest : List Term} {g : ℕ} → length rest ≡ 0 → IsGathering ts g rest → IsContentOf (entries ts) g
+gathered_all {ts} {rest} {g} empty before d =
+    let end : IsGathering ts g [] = subst (IsGathering ts g) (no_length rest empty) before in
+    (λ divides. (end.same d).0 (divides, tt), λ all. ((end.same d).1 all).0)

@@ -1,7 +1,8 @@
 -- A polynomial whose terms are all divided by one term. Main lemmas `divided_whole` (times the term it is the polynomial),
 -- `divided_terms` (its terms are the quotients) and `divided_is_listed`, which the loop of `divided_terms` cites.
 -- The list of the quotients times the term is the list of the terms; so it falls as that does.
-use Rattle.std.proofs.Common.{◌≡◌, refl, ℕ, zero, suc, ◌*◌, ◌≤◌, ◌<◌, ℤ, pos, ◌*ℤ◌, int_div, nat_abs, true, false, cond, T, List, [], ◌∷◌, map, length, sym, ◌∙◌, ap, ap₂, subst, arith, Less}
+use Rattle.std.proofs.Common.{◌≡◌, refl, ℕ, zero, suc, ◌*◌, ◌≤◌, ◌<◌, ℤ, pos, ◌*ℤ◌, int_div, nat_abs, true, false, cond, T, List, [], ◌∷◌, ◌++◌, map, length, sym, ◌∙◌, ap, ap₂, subst, arith, append_assoc, append-nil}
+use Rattle.std.proofs.lemmas.List.Sums.{sum_by-cons}
 use lib.IntN.{*ℤ_comm}
 use Rattle.ct_algebra.specs.Monomial.{Mono, monomials, mono_ordered, mono_cmp, ◌·◌, ·_comm}
 use Rattle.ct_algebra.specs.Terms.{AllBelow, IsCanonical, EachTerm, is_less}
@@ -11,17 +12,13 @@ use Rattle.ct_algebra.specs.WholeNumbers.{int_group, int_ring, int_is_zero}
 use Rattle.ct_algebra.specs.Substitution.{term}
 use Rattle.ct_algebra.specs.Polynomial.{Polynomial, poly_of, times, norm_of, terms-poly_of}
 use Rattle.ct_algebra.proofs.TermLists.{row_of, poly_of-row}
-use Rattle.ct_mono.specs.Division.{Divides}
+use Rattle.ct_mono.specs.Limits.{largest_norm}
 use Rattle.ct_poly.specs.declared.term.Term.{Term}
-use Rattle.ct_poly.specs.Terms.{entries, size_of, IsFalling, IsListOf, poly_of_terms}
-use Rattle.ct_poly.specs.Content.{term_divided, divided}
+use Rattle.ct_poly.specs.Terms.{entries, entry, size_of, IsFalling, IsListOf, poly_of_terms}
+use Rattle.ct_poly.specs.Content.{TermDivides, term_divided, divided}
 use Rattle.ct_poly.proofs.CommonMonomials.{divides_exp, without, without-·}
-use Rattle.ct_poly.proofs.TermLists.{rebuilt, poly_of-single, terms_of, norm_of-row, norm_of-entries, length-entries, length-row, nonzero_coef}
+use Rattle.ct_poly.proofs.TermLists.{no_length, entries-append, rebuilt, poly_of-single, terms_of, norm_of-row, norm_of-entries, length-entries, length-row, nonzero_coef}
 use Rattle.ct_poly.proofs.WholeQuotients.{int_div-*, positive_abs}
-
--- a term divides another
-abbrev pub Goes : Mono → ℤ → Mono → ℤ → Type 0
-Goes m d k c = Divides m k × ((q : ℤ) × (q *ℤ d ≡ c))
 
 abbrev pub quotients : Mono → ℤ → List (Mono × ℤ) → List (Mono × ℤ)
 quotients m d es = map (term_divided m d) es
@@ -33,7 +30,7 @@ divisor_nonzero q d c whole some none =
 
 -- the quotients times the term are the terms
 pub row-quotients :
-    (m : Mono) (d : ℤ) (es : List (Mono × ℤ)) → IsCanonical monomials int_group es → EachTerm (Goes m d) es →
+    (m : Mono) (d : ℤ) (es : List (Mono × ℤ)) → IsCanonical monomials int_group es → EachTerm (TermDivides m d) es →
     row_of (m, d) (quotients m d es) ≡ es
 row-quotients m d [] canonical each = refl
 row-quotients m d (e ∷ es) canonical each =
@@ -64,18 +61,18 @@ canonical_back e (f ∷ fs) canonical = (
 )
 
 canonical-quotients :
-    (m : Mono) (d : ℤ) (es : List (Mono × ℤ)) → IsCanonical monomials int_group es → EachTerm (Goes m d) es →
+    (m : Mono) (d : ℤ) (es : List (Mono × ℤ)) → IsCanonical monomials int_group es → EachTerm (TermDivides m d) es →
     IsCanonical monomials int_group (quotients m d es)
 canonical-quotients m d es canonical each =
     canonical_back (m, d) (quotients m d es) (subst (IsCanonical monomials int_group) (sym (row-quotients m d es canonical each)) canonical)
 
 -- ---- the polynomial
 
-pub divided_terms : (m : Mono) (d : ℤ) (p : Polynomial) → EachTerm (Goes m d) p.terms → (divided m d p).terms ≡ quotients m d p.terms
+pub divided_terms : (m : Mono) (d : ℤ) (p : Polynomial) → EachTerm (TermDivides m d) p.terms → (divided m d p).terms ≡ quotients m d p.terms
 unfolding divided
 divided_terms m d p each = terms-poly_of _ (canonical-quotients m d p.terms p.canonical each)
 
-pub divided_whole : (m : Mono) (d : ℤ) (p : Polynomial) → EachTerm (Goes m d) p.terms → times (term m d) (divided m d p) ≡ p
+pub divided_whole : (m : Mono) (d : ℤ) (p : Polynomial) → EachTerm (TermDivides m d) p.terms → times (term m d) (divided m d p) ≡ p
 unfolding divided
 divided_whole m d p each =
     ap (λ w. times w (poly_of (quotients m d p.terms))) (sym (poly_of-single m d)) ∙ sym (poly_of-row (m, d) (quotients m d p.terms))
@@ -83,7 +80,7 @@ divided_whole m d p each =
 
 -- ---- the list
 
-size-quotients : (m : Mono) (d : ℤ) (es : List (Mono × ℤ)) → IsCanonical monomials int_group es → EachTerm (Goes m d) es → norm_of (quotients m d es) ≤ norm_of es
+size-quotients : (m : Mono) (d : ℤ) (es : List (Mono × ℤ)) → IsCanonical monomials int_group es → EachTerm (TermDivides m d) es → norm_of (quotients m d es) ≤ norm_of es
 size-quotients m d [] canonical each = omega arith
 size-quotients m d (e ∷ es) canonical each = by each.0.1
   where
@@ -103,7 +100,7 @@ length-quotients m d [] = refl
 length-quotients m d (e ∷ es) = ap (λ n. suc n) (length-quotients m d es)
 
 pub divided_is_listed :
-    {p : Polynomial} (m : Mono) (d : ℤ) (ts v : List Term) → IsFalling ts → poly_of_terms ts ≡ p → EachTerm (Goes m d) (entries ts) →
+    {p : Polynomial} (m : Mono) (d : ℤ) (ts v : List Term) → IsFalling ts → poly_of_terms ts ≡ p → EachTerm (TermDivides m d) (entries ts) →
     entries v ≡ quotients m d (entries ts) → IsListOf (divided m d p) (length ts) (size_of ts) v
 unfolding divided poly_of_terms
 divided_is_listed {p} m d ts v falling value each made = record {
@@ -112,3 +109,49 @@ divided_is_listed {p} m d ts v falling value each made = record {
   few = omega (arith, length-entries v, ap length made, length-quotients m d (entries ts), length-entries ts);
   small = omega (arith, norm_of-entries v, ap norm_of made, size-quotients m d (entries ts) falling each, norm_of-entries ts);
 }
+
+-- ---- the loop
+
+pub record IsDividing (m : Mono) (d : ℤ) (ts done rest : List Term) : Type 0 where
+  pub made : entries done ++ quotients m d (entries rest) ≡ quotients m d (entries ts)
+  pub falling : IsFalling rest
+  pub small : size_of rest ≤ largest_norm
+  pub each : EachTerm (TermDivides m d) (entries rest)
+
+pub dividing_more :
+    {m : Mono} {d : ℤ} {ts done all rest more : List Term} {t u : Term} → rest ≡ t ∷ more → all ≡ done ++ u ∷ [] →
+    entry u ≡ term_divided m d (entry t) → IsDividing m d ts done rest → IsDividing m d ts all more
+dividing_more {m} {d} {ts} {done} {all} {rest} {more} {t} {u} rest_is all_is divided g =
+    let h : IsDividing m d ts done (t ∷ more) = subst (IsDividing m d ts done) rest_is g in
+    record {
+      made = ap (λ w. w ++ quotients m d (entries more)) (ap entries all_is ∙ entries-append done (u ∷ []))
+          ∙ append_assoc (entries done) (entry u ∷ []) (quotients m d (entries more))
+          ∙ ap (λ e. entries done ++ e ∷ quotients m d (entries more)) divided ∙ h.made;
+      falling = h.falling.2;
+      small = omega (arith, h.small, sum_by-cons (λ u. nat_abs u.coef) t more);
+      each = h.each.1;
+    }
+
+pub dividing_ended :
+    {m : Mono} {d : ℤ} {ts done rest : List Term} → length rest ≡ 0 → IsDividing m d ts done rest →
+    entries done ≡ quotients m d (entries ts)
+dividing_ended {m} {d} {ts} {done} {rest} empty g =
+    sym (append-nil (entries done)) ∙ ap (λ r. entries done ++ quotients m d (entries r)) (sym (no_length rest empty)) ∙ g.made
+
+-- the term at hand
+pub head_divides :
+    {m : Mono} {d : ℤ} {ts done rest more : List Term} {t : Term} → rest ≡ t ∷ more → IsDividing m d ts done rest →
+    TermDivides m d t.mono t.coef
+head_divides {m} {d} {ts} {done} rest_is g = (subst (IsDividing m d ts done) rest_is g).each.0
+
+pub head_nonzero :
+    {m : Mono} {d : ℤ} {ts done rest more : List Term} {t : Term} → rest ≡ t ∷ more → IsDividing m d ts done rest →
+    t.coef ≡ pos 0 → ⊥
+head_nonzero {m} {d} {ts} {done} {rest} {more} {t} rest_is g =
+    not_zero monomials int_group t.coef (subst (IsDividing m d ts done) rest_is g).falling.0
+
+pub head_small :
+    {m : Mono} {d : ℤ} {ts done rest more : List Term} {t : Term} → rest ≡ t ∷ more → IsDividing m d ts done rest →
+    nat_abs t.coef ≤ largest_norm
+head_small {m} {d} {ts} {done} {rest} {more} {t} rest_is g =
+    omega (arith, g.small, ap size_of rest_is, sum_by-cons (λ u. nat_abs u.coef) t more)

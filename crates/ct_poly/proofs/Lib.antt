@@ -16,3 +16,4 @@ pub mod Contents
 pub mod CommonMonomials
 pub mod DividedTerms
 pub mod PrimitiveParts
+pub mod OfTerms

@@ -16,10 +16,10 @@ use Rattle.ct_algebra.specs.WholeNumbers.{int_group, int_ring, int_is_zero}
 use Rattle.ct_algebra.specs.Substitution.{term, number, number_is}
 use Rattle.ct_algebra.specs.Polynomial.{Polynomial, polys, times}
 use Rattle.ct_mono.specs.Division.{Divides}
-use Rattle.ct_poly.specs.Content.{content, common_monomial, is_negative, is_below_zero, leads_below_zero, signed, signed_content, divided, primitive_form, primitive_part}
+use Rattle.ct_poly.specs.Content.{DividesAll, TermDivides, content, common_monomial, is_negative, is_below_zero, leads_below_zero, signed, signed_content, divided, primitive_form, primitive_part}
 use Rattle.ct_poly.proofs.CommonMonomials.{divides_exp, exp_divides, without, common_divides, common_greatest}
-use Rattle.ct_poly.proofs.Contents.{DividesAll, content_is}
-use Rattle.ct_poly.proofs.DividedTerms.{Goes, quotients, divisor_nonzero, divided_whole, divided_terms}
+use Rattle.ct_poly.proofs.Contents.{content_is}
+use Rattle.ct_poly.proofs.DividedTerms.{quotients, divisor_nonzero, divided_whole, divided_terms}
 use Rattle.ct_poly.proofs.WholeQuotients.{int_div-*, positive_abs}
 
 -- ---- signed multiples
@@ -42,7 +42,7 @@ signed_multiple true k n (pos c) same =
     (neg_ℤ (pos k), mul_neg int_ring (neg_ℤ (pos k)) (pos n) ∙ ap neg_ℤ (neg_times k n) ∙ neg_ℤ-neg_ℤ (pos (k * n)) ∙ ap pos same)
 signed_multiple true k n (negsuc c) same = (pos k, mul_neg int_ring (pos k) (pos n) ∙ ap (λ x. neg_ℤ (pos x)) same)
 
-goes_in : (p : Polynomial) (m : Mono) (k : Mono) (c : ℤ) → Divides m k → content p ∣ unsigned_abs c → Goes m (signed_content p) k c
+goes_in : (p : Polynomial) (m : Mono) (k : Mono) (c : ℤ) → Divides m k → content p ∣ unsigned_abs c → TermDivides m (signed_content p) k c
 unfolding signed_content
 goes_in p m k c divides whole =
     (divides, signed_multiple (is_negative p) (unsigned_abs c / content p) (content p) c (div-mul_cancel (content p) whole))
@@ -52,7 +52,7 @@ EachTerm-both :
 EachTerm-both S Q [] s q = tt
 EachTerm-both S Q (e ∷ es) s q = ((s.0, q.0), EachTerm-both S Q es s.1 q.1)
 
-pub goes_each : (p : Polynomial) (m : Mono) → EachTerm (λ k c. Divides m k) p.terms → EachTerm (Goes m (signed_content p)) p.terms
+pub goes_each : (p : Polynomial) (m : Mono) → EachTerm (λ k c. Divides m k) p.terms → EachTerm (TermDivides m (signed_content p)) p.terms
 goes_each p m each =
     EachTerm-weaker (λ k c both. goes_in p m k c both.0 both.1) p.terms (EachTerm-both (λ k c. Divides m k) (λ k c. content p ∣ unsigned_abs c) p.terms each ((content_is p (content p)).0 (dvd_refl (content p))))
 
@@ -60,10 +60,10 @@ unit_divides : (es : List (Mono × ℤ)) → EachTerm (λ k c. Divides unit k) e
 unit_divides [] = tt
 unit_divides (e ∷ es) = (exp_divides unit e.0 (λ i small. omega (arith, exp-unit i small)), unit_divides es)
 
-pub form_goes : (p : Polynomial) → EachTerm (Goes unit (signed_content p)) p.terms
+pub form_goes : (p : Polynomial) → EachTerm (TermDivides unit (signed_content p)) p.terms
 form_goes p = goes_each p unit (unit_divides p.terms)
 
-pub part_goes : (p : Polynomial) → EachTerm (Goes (common_monomial p) (signed_content p)) p.terms
+pub part_goes : (p : Polynomial) → EachTerm (TermDivides (common_monomial p) (signed_content p)) p.terms
 part_goes p = goes_each p (common_monomial p) (common_divides p)
 
 -- ---- the parts make the whole
@@ -81,7 +81,7 @@ part_whole p = divided_whole (common_monomial p) (signed_content p) p (part_goes
 -- ---- nothing more divides them
 
 times_each :
-    (x : ℕ) (m : Mono) (d : ℤ) (es : List (Mono × ℤ)) → IsCanonical monomials int_group es → EachTerm (Goes m d) es →
+    (x : ℕ) (m : Mono) (d : ℤ) (es : List (Mono × ℤ)) → IsCanonical monomials int_group es → EachTerm (TermDivides m d) es →
     DividesAll x (quotients m d es) → DividesAll (x * unsigned_abs d) es
 times_each x m d [] canonical each all = tt
 times_each x m d (e ∷ es) canonical each all = (by each.0.1, times_each x m d es canonical.2 each.1 all.1)
@@ -117,14 +117,14 @@ first_of p some = by p.terms refl
     by [] empty = absurd (some (none_of monomials int_group p (ap (has_none monomials int_group) empty)))
     by (e ∷ es) full = record { head = e; rest = es; full = full }
 
-module _ (p : Polynomial) (some : p ≡ polys.zero → ⊥) (m : Mono) (each : EachTerm (Goes m (signed_content p)) p.terms) where
+module _ (p : Polynomial) (some : p ≡ polys.zero → ⊥) (m : Mono) (each : EachTerm (TermDivides m (signed_content p)) p.terms) where
   abbrev d : ℤ
   d = signed_content p
 
   nonzero : First p → d ≡ pos 0 → ⊥
   nonzero f none =
       let canonical = subst (IsCanonical monomials int_group) f.full p.canonical in
-      let goes = subst (EachTerm (Goes m d)) f.full each in
+      let goes = subst (EachTerm (TermDivides m d)) f.full each in
       by goes.0.1 canonical.0
     where
       by : (q : ℤ) × (q *ℤ d ≡ f.head.1) → T (cond (int_is_zero f.head.1) false true) → ⊥
@@ -150,7 +150,7 @@ module _ (p : Polynomial) (some : p ≡ polys.zero → ⊥) (m : Mono) (each : E
       by : First p → leads_below_zero (quotients m d p.terms) ≡ false
       by f =
           let canonical = subst (IsCanonical monomials int_group) f.full p.canonical in
-          let goes = subst (EachTerm (Goes m d)) f.full each in
+          let goes = subst (EachTerm (TermDivides m d)) f.full each in
           ap (λ es. leads_below_zero (quotients m d es)) f.full ∙ told goes.0.1 canonical.0
         where
           sign : d ≡ signed (is_below_zero f.head.1) (content p)
@@ -162,7 +162,7 @@ module _ (p : Polynomial) (some : p ≡ polys.zero → ⊥) (m : Mono) (each : E
               ∙ quotient_sign q f.head.1 (content p) (ap (λ k. q *ℤ k) (sym sign) ∙ whole) (not_zero monomials int_group f.head.1 nonzero)
 
 divides_more :
-    (t m : Mono) (d : ℤ) (es : List (Mono × ℤ)) → EachTerm (Goes m d) es → EachTerm (λ k c. Divides t k) (quotients m d es) →
+    (t m : Mono) (d : ℤ) (es : List (Mono × ℤ)) → EachTerm (TermDivides m d) es → EachTerm (λ k c. Divides t k) (quotients m d es) →
     EachTerm (λ k c. Divides (t · m) k) es
 divides_more t m d [] each all = tt
 divides_more t m d (e ∷ es) each all = (

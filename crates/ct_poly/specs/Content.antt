@@ -9,17 +9,25 @@
 --     primitive_part p      p over its signed content and its common monomial
 -- So p is its signed content times its common monomial times its primitive part, and the primitive part of a nonzero p has
 -- content 1, common monomial 1 and a positive leading coefficient: `ContentLaws`.
-use Rattle.std.specs.Prelude.{ℕ, zero, suc, ◌-◌, ◌%◌, min, ℤ, pos, negsuc, neg_ℤ, unsigned_abs, Bool, true, false, cond, eqb, List, [], ◌∷◌, map, int_div}
+use Rattle.std.specs.Prelude.{◌≡◌, ◌↔◌, ◌*ℤ◌, ℕ, zero, suc, ◌-◌, ◌%◌, min, ℤ, pos, negsuc, neg_ℤ, unsigned_abs, Bool, true, false, cond, eqb, List, [], ◌∷◌, map, int_div}
 use Rattle.std.specs.Int.{◌∣◌}
 use Rattle.std.specs.List.{list_all}
 use Rattle.ct_algebra.specs.Terms.{EachTerm}
 use Rattle.ct_algebra.specs.Monomial.{Mono, exp, mono, unit}
 use Rattle.ct_algebra.specs.Polynomial.{Polynomial, poly_of, norm}
+use Rattle.ct_mono.specs.Division.{Divides}
 
 -- ---- the content
 
+abbrev pub DividesAll : ℕ → List (Mono × ℤ) → Type 0
+DividesAll d es = EachTerm (λ m c. d ∣ unsigned_abs c) es
+
 abbrev pub DividesEach : ℕ → Polynomial → Type 0
-DividesEach d p = EachTerm (λ m c. d ∣ unsigned_abs c) p.terms
+DividesEach d p = DividesAll d p.terms
+
+-- the divisors of g are the common divisors of the coefficients
+abbrev pub IsContentOf : List (Mono × ℤ) → ℕ → Type 0
+IsContentOf es g = (d : ℕ) → (d ∣ g) ↔ DividesAll d es
 
 -- the test
 abbrev pub divides_each : ℕ → List (Mono × ℤ) → Bool
@@ -69,6 +77,10 @@ unfoldable pub signed_content : Polynomial → ℤ
 signed_content p = signed (is_negative p) (content p)
 
 -- ---- the parts
+
+-- the term of m and d divides that of k and c
+abbrev pub TermDivides : Mono → ℤ → Mono → ℤ → Type 0
+TermDivides m d k c = Divides m k × ((q : ℤ) × (q *ℤ d ≡ c))
 
 -- a term over a monomial and a number
 abbrev pub term_divided : Mono → ℤ → Mono × ℤ → Mono × ℤ

@@ -4,5 +4,6 @@ pub mod Division
 pub mod Content
 pub mod ContentLaws
 pub mod Order
+pub mod Parts
 pub mod Powers
 pub mod MeasureLaws

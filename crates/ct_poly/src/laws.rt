@@ -1,5 +1,11 @@
-// The laws of the measures, as functions with no code.
+// The laws of the measures, of contents and of the order, as functions with no code.
+ghost use Rattle.std.specs.Prelude.{◌≡◌};
+ghost use Rattle.std.specs.Cmp.{IsTotalOrder};
+ghost use Rattle.std.specs.declared.cmp.Ordering.TheVariants.{Equal};
+ghost use Rattle.ct_algebra.specs.Polynomial.{Polynomial};
+ghost use Rattle.ct_poly.specs.ContentLaws.{ContentIsGreatest, CommonMonomialIsGreatest, PartsMakeWhole, PrimitivePartIsPrimitive, PrimitiveFormIsPrimitive};
 ghost use Rattle.ct_poly.specs.MeasureLaws.{SumFitsWhereMeasuresDo, ProductFitsWhereMeasuresDo, ProductWithZeroFits, CheckedValuesAreExact, SumsAreWithinMeasures, ProductsAreWithinMeasures, ShiftsAreWithinMeasures, DerivativesAreWithinMeasures};
+ghost use Rattle.ct_poly.specs.Order.{poly_cmp};
 
 /// A sum fits exactly where counts and norms have room together.
 pub fn sum_fits_where_measures_do()
@@ -39,4 +45,35 @@ pub fn shifts_are_within_measures()
 /// A derivative has at most the terms of the polynomial, and the norm that its rule tests.
 pub fn derivatives_are_within_measures()
     ensures { DerivativesAreWithinMeasures }
+{}
+
+/// The divisors of the content are the common divisors of the coefficients.
+pub fn content_is_greatest()
+    ensures { ContentIsGreatest }
+{}
+
+/// The divisors of the common monomial are the monomials that divide every term.
+pub fn common_monomial_is_greatest()
+    ensures { CommonMonomialIsGreatest }
+{}
+
+/// A polynomial is the product of its parts.
+pub fn parts_make_whole()
+    ensures { PartsMakeWhole }
+{}
+
+/// Nothing but 1 divides all of a primitive part, which is positive at its leading term.
+pub fn primitive_part_is_primitive()
+    ensures { PrimitivePartIsPrimitive }
+{}
+
+/// No number but 1 divides all of a primitive form, which is positive at its leading term.
+pub fn primitive_form_is_primitive()
+    ensures { PrimitiveFormIsPrimitive }
+{}
+
+/// The order of polynomials is total, and equal polynomials are the same.
+pub fn order_is_total()
+    ensures total { IsTotalOrder poly_cmp }
+    ensures tied { (p q : Polynomial) → poly_cmp p q ≡ Equal → p ≡ q }
 {}

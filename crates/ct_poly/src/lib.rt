@@ -8,12 +8,16 @@
 //! of ct_algebra. Names are given as numbers below six.
 #![tactic(auto)]
 
+mod content;
 mod derivative;
 pub mod laws;
 mod measures;
+mod order;
+mod part;
 mod poly;
 mod product;
 mod shift;
+mod split;
 mod sum;
 mod term;
 #[cfg(test)]
@@ -21,4 +25,5 @@ mod tests;
 
 pub use ct_mono::{Fault, Kind, LARGEST_DEGREE, LARGEST_NORM, MOST_TERMS, Monomial, NoMemory};
 pub use poly::Poly;
+pub use split::Split;
 pub use term::Term;

@@ -1,0 +1,8 @@
+use Rattle.std.proofs.Common.{◌∙◌, ap₂}
+use Rattle.std.specs.Cmp.Lexicographic.{slice_cmp}
+use Rattle.ct_poly.specs.Order.{poly_cmp, term_cmp}
+use Rattle.ct_poly.proofs.poly.Poly.cmp.Goals as goal
+
+pub returns : goal.returns
+unfolding poly_cmp
+returns c = c.cmp_of_terms.ensures ∙ ap₂ (slice_cmp term_cmp) c.terms.ensures c.terms-2.ensures
