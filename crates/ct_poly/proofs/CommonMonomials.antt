@@ -1,6 +1,6 @@
 -- The common monomial: the monomials that divide it are those that divide every term. Main lemmas `common_divides` and
 -- `common_greatest`. A monomial divides another exactly where no exponent is greater, and the exponents here are the least.
-use Rattle.std.proofs.Common.{◌≡◌, refl, ℕ, zero, suc, ◌+◌, ◌-◌, ◌≤◌, ◌<◌, min, ℤ, Bool, true, false, eqb, List, [], ◌∷◌, length, sym, ◌∙◌, ap, subst, arith, eqb-true}
+use Rattle.std.proofs.Common.{◌≡◌, refl, ℕ, ◌+◌, ◌-◌, ◌≤◌, ◌<◌, min, ℤ, Bool, true, false, eqb, List, [], ◌∷◌, length, sym, ◌∙◌, ap, subst, arith, eqb-true}
 use Rattle.std.proofs.lemmas.Bool.{eqb-false}
 use Rattle.std.proofs.Math.Nat.{min-le_left, min-le_right, le-min}
 use Rattle.ct_algebra.specs.Monomial.{Mono, exp, mono, exp-mono, exp-·, same_mono, unit, ◌·◌}

@@ -17,7 +17,7 @@ use Rattle.ct_poly.specs.declared.term.Term.{Term}
 use Rattle.ct_poly.specs.Terms.{entries, entry, size_of, IsFalling, IsListOf, poly_of_terms}
 use Rattle.ct_poly.specs.Content.{TermDivides, term_divided, divided}
 use Rattle.ct_poly.proofs.CommonMonomials.{divides_exp, without, without-·}
-use Rattle.ct_poly.proofs.TermLists.{no_length, entries-append, rebuilt, poly_of-single, terms_of, norm_of-row, norm_of-entries, length-entries, length-row, nonzero_coef}
+use Rattle.ct_poly.proofs.TermLists.{no_length, entries-append, rebuilt, poly_of-single, terms_of, norm_of-row, norm_of-entries, length-entries, nonzero_coef}
 use Rattle.ct_poly.proofs.WholeQuotients.{int_div-*, positive_abs}
 
 abbrev pub quotients : Mono → ℤ → List (Mono × ℤ) → List (Mono × ℤ)

@@ -17,3 +17,4 @@ pub mod CommonMonomials
 pub mod DividedTerms
 pub mod PrimitiveParts
 pub mod OfTerms
+pub mod Parts

@@ -8,7 +8,7 @@ use Rattle.ct_algebra.specs.WholeNumbers.{int_group}
 use Rattle.ct_algebra.specs.Polynomial.{Polynomial, poly_of, norm_of, count, norm, terms-poly_of}
 use Rattle.ct_mono.specs.Limits.{most_terms, largest_norm}
 use Rattle.ct_poly.specs.declared.term.Term.{Term}
-use Rattle.ct_poly.specs.Terms.{entries, size_of, IsFalling, IsListOf, poly_of_terms}
+use Rattle.ct_poly.specs.Terms.{entries, IsListOf, poly_of_terms}
 use Rattle.ct_poly.specs.Content.{TermDivides, divided}
 use Rattle.ct_poly.proofs.DividedTerms.{quotients, divided_is_listed}
 use Rattle.ct_poly.proofs.TermLists.{rebuilt, length-entries, norm_of-entries}

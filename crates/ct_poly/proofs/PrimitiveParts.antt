@@ -1,7 +1,7 @@
 -- The primitive form and the primitive part: that they are quotients of the whole, and that nothing more divides them.
 -- Main lemmas `form_whole`, `part_whole`, `form_primitive` and `part_primitive`, which the laws of contents cite.
 -- What divides the quotients, times the content divides the coefficients; so it divides 1. Likewise of monomials.
-use Rattle.std.proofs.Common.{◌≡◌, ◌↔◌, refl, ℕ, zero, suc, ◌+◌, ◌-◌, ◌*◌, ◌/◌, ◌≤◌, ◌<◌, ℤ, pos, negsuc, neg_ℤ, ◌*ℤ◌, int_div, unsigned_abs, Bool, true, false, cond, T, List, [], ◌∷◌, sym, ◌∙◌, ap, ap₂, subst, arith}
+use Rattle.std.proofs.Common.{◌≡◌, ◌↔◌, refl, ℕ, zero, suc, ◌-◌, ◌*◌, ◌/◌, ℤ, pos, negsuc, neg_ℤ, ◌*ℤ◌, int_div, unsigned_abs, Bool, true, false, cond, T, List, [], ◌∷◌, sym, ◌∙◌, ap, subst, arith}
 use Rattle.std.specs.Int.{◌∣◌}
 use Rattle.std.proofs.lemmas.Int.{unsigned_abs-mul}
 use Rattle.std.proofs.lemmas.Nat.Gcd.{dvd_refl}

@@ -1,6 +1,6 @@
 -- The laws of contents and parts: that content and common monomial are the greatest, that the parts make the whole, and that
 -- the primitive part has nothing left to divide out.
-use Rattle.std.specs.Prelude.{◌≡◌, ◌↔◌, ℕ, Bool, false}
+use Rattle.std.specs.Prelude.{◌≡◌, ◌↔◌, ℕ, false}
 use Rattle.std.specs.Int.{◌∣◌}
 use Rattle.ct_algebra.specs.Monomial.{Mono, unit}
 use Rattle.ct_algebra.specs.Polynomial.{Polynomial, polys, times}

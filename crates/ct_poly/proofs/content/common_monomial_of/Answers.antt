@@ -1,5 +1,5 @@
-use Rattle.std.proofs.Common.{◌≡◌, ◌∙◌, refl, arith, ap₂, min}
-use Rattle.ct_poly.proofs.CommonMonomials.{IsMeeting, meeting_more}
+use Rattle.std.proofs.Common.{◌∙◌, refl, arith, ap₂, min}
+use Rattle.ct_poly.proofs.CommonMonomials.{meeting_more}
 use Rattle.ct_poly.proofs.content.common_monomial_of.Goals as goal
 
 pub loop-i-init : goal.loop-i-init

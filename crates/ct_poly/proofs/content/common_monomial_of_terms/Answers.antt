@@ -1,4 +1,3 @@
-use Rattle.std.proofs.Common.{sym}
 use Rattle.ct_poly.proofs.CommonMonomials.{least_of_none, least_start, least_more, least_all}
 use Rattle.ct_poly.proofs.content.common_monomial_of_terms.Goals as goal
 

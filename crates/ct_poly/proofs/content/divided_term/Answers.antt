@@ -1,4 +1,4 @@
-use Rattle.std.proofs.Common.{◌≡◌, ◌∙◌, sym, ap₂, subst, FitsSigned, int_div, rules, Some, MatchOption}
+use Rattle.std.proofs.Common.{◌≡◌, ◌∙◌, ap₂, subst, FitsSigned, int_div, rules, Some, MatchOption}
 use Rattle.std.specs.Int.{w128}
 use Rattle.std.proofs.lemmas.Int.{to_z-of_z}
 use Rattle.ct_algebra.specs.Monomial.{◌·◌}

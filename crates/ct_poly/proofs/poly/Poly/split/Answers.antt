@@ -3,7 +3,7 @@ use Rattle.std.specs.Int.{w128}
 use Rattle.std.proofs.lemmas.Int.{to_z-of_z}
 use Rattle.ct_algebra.specs.Monomial.{mono}
 use Rattle.ct_algebra.specs.Terms.{EachTerm}
-use Rattle.ct_poly.specs.Content.{TermDivides, divided, is_negative, leads_below_zero, least_exp, common_monomial, signed_content, primitive_part}
+use Rattle.ct_poly.specs.Content.{TermDivides, divided, is_negative, leads_below_zero, least_exp, common_monomial, primitive_part}
 use Rattle.ct_poly.proofs.PrimitiveParts.{part_goes}
 use Rattle.ct_poly.proofs.poly.Poly.split.Goals as goal
 
