@@ -18,3 +18,6 @@ pub mod DividedTerms
 pub mod PrimitiveParts
 pub mod OfTerms
 pub mod Parts
+pub mod ProductLeads
+pub mod DivisionSteps
+pub mod DivisionLaws
