@@ -5,25 +5,24 @@ use Rattle.std.proofs.Common.{◌≡◌, refl, ◌<◌, suc, ℤ, neg_ℤ, pos, 
 use lib.IntN.{*ℤ_comm}
 use Rattle.ct_algebra.specs.Group.{IsHom, hom_neg}
 use Rattle.ct_algebra.specs.Leading.{leading}
-use Rattle.ct_algebra.specs.Laws.Terms.{less_is, not_zero}
 use Rattle.ct_algebra.specs.Monomial.{Mono, monomials, mono_cmp, ◌·◌}
 use Rattle.ct_algebra.specs.Polynomial.{Polynomial, polys, poly_of, plus, times, terms-poly_of}
 use Rattle.ct_algebra.specs.RingTactic.{ring4, reify}
 use Rattle.ct_algebra.specs.Substitution.{term, term-sum, term-*}
 use Rattle.ct_algebra.specs.Sums.{EachTerm-⊕}
-use Rattle.ct_algebra.specs.Terms.{AllBelow, IsCanonical, EachTerm}
+use Rattle.ct_algebra.specs.Terms.{IsCanonical}
 use Rattle.ct_algebra.specs.WholeNumbers.{int_group, int_is_zero}
 use Rattle.ct_algebra.proofs.TermLists.{row_of}
 use Rattle.ct_algebra.proofs.TermProducts.{sum_of-append}
 use Rattle.ct_mono.specs.Checked.{verdict_ok}
 use Rattle.ct_mono.specs.Division.{over, over_is}
 use Rattle.ct_mono.specs.Loop.{Falls}
-use Rattle.ct_mono.specs.Rank.{rank-less, mono_rank}
-use Rattle.ct_poly.specs.Division.{Dividing, whole_over, both_over, leading_over, next_term, step_of, checked_step, leading_rank, dividing_rank}
+use Rattle.ct_mono.specs.Rank.{rank-less}
+use Rattle.ct_poly.specs.Division.{Dividing, whole_over, both_over, term_over, leading_over, next_term, step_of, checked_step, leading_rank, dividing_rank}
 use Rattle.ct_poly.specs.Measures.{minus}
 use Rattle.ct_poly.proofs.DividedTerms.{divisor_nonzero}
 use Rattle.ct_poly.proofs.ProductLeads.{EachBelow, each_below, row_below}
-use Rattle.ct_poly.proofs.TermLists.{rebuilt, poly_of-single, terms-multiple, nonzero_coef}
+use Rattle.ct_poly.proofs.TermLists.{rebuilt, poly_of-single, terms-multiple}
 use Rattle.ct_poly.proofs.WholeQuotients.{whole_over_is}
 
 -- u is the quotient of two leading terms
@@ -37,28 +36,24 @@ pub record IsNext (es ds : List (Mono × ℤ)) (u : Mono × ℤ) : Type 0 where
   pub mono : u.0 · lead.0 ≡ top.0
   pub coef : u.1 *ℤ lead.1 ≡ top.1
 
-pub found_is : (es ds : List (Mono × ℤ)) (u : Mono × ℤ) → leading_over (leading es) (leading ds) ≡ Some u → IsNext es ds u
-found_is [] ds u found = cc
-found_is (e ∷ es) [] u found = cc
-found_is (e ∷ es) (d ∷ ds) u found = by (over e.0 d.0) (whole_over e.1 d.1) (over_is e.0 d.0) (whole_over_is e.1 d.1) found
+pub next_parts : (e d u : Mono × ℤ) → term_over e d ≡ Some u → (u.0 · d.0 ≡ e.0) × (u.1 *ℤ d.1 ≡ e.1)
+next_parts e d u found = by (over e.0 d.0) (whole_over e.1 d.1) (over_is e.0 d.0) (whole_over_is e.1 d.1) found
   where
-    by : (o : Option Mono) (w : Option ℤ) → ((t : Mono) → o ≡ Some t → t · d.0 ≡ e.0) → ((q : ℤ) → w ≡ Some q → q *ℤ d.1 ≡ e.1)
-        → both_over o w ≡ Some u → IsNext (e ∷ es) (d ∷ ds) u
+    by :
+        (o : Option Mono) (w : Option ℤ) → ((t : Mono) → o ≡ Some t → t · d.0 ≡ e.0) →
+        ((q : ℤ) → w ≡ Some q → q *ℤ d.1 ≡ e.1) → both_over o w ≡ Some u → (u.0 · d.0 ≡ e.0) × (u.1 *ℤ d.1 ≡ e.1)
     by (Some t) (Some q) first second found =
-        let pair : Some (t, q) ≡ Some u = found in
         let same : (t, q) ≡ u = cc in
-        record {
-          top = e;
-          below = es;
-          rest_is = refl;
-          lead = d;
-          others = ds;
-          by_is = refl;
-          mono = ap (λ v. v.0 · d.0) (sym same) ∙ first t refl;
-          coef = ap (λ v. v.1 *ℤ d.1) (sym same) ∙ second q refl;
-        }
+        (ap (λ v. v.0 · d.0) (sym same) ∙ first t refl, ap (λ v. v.1 *ℤ d.1) (sym same) ∙ second q refl)
     by (Some t) None first second found = cc
     by None w first second found = cc
+
+found_is : (es ds : List (Mono × ℤ)) (u : Mono × ℤ) → leading_over (leading es) (leading ds) ≡ Some u → IsNext es ds u
+found_is [] ds u found = cc
+found_is (e ∷ es) [] u found = cc
+found_is (e ∷ es) (d ∷ ds) u found =
+    let parts = next_parts e d u found in
+    record { top = e; below = es; rest_is = refl; lead = d; others = ds; by_is = refl; mono = parts.0; coef = parts.1 }
 
 pub next_is : (f : Polynomial) (s : Dividing) (u : Mono × ℤ) → next_term f s ≡ Some u → IsNext s.rest.terms f.terms u
 unfolding next_term

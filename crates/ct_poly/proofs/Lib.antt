@@ -21,3 +21,5 @@ pub mod Parts
 pub mod ProductLeads
 pub mod DivisionSteps
 pub mod DivisionLaws
+pub mod DivisionLists
+pub mod DivisionLoop

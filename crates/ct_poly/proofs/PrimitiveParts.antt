@@ -20,16 +20,12 @@ use Rattle.ct_poly.specs.Content.{DividesAll, TermDivides, content, common_monom
 use Rattle.ct_poly.proofs.CommonMonomials.{divides_exp, exp_divides, without, common_divides, common_greatest}
 use Rattle.ct_poly.proofs.Contents.{content_is}
 use Rattle.ct_poly.proofs.DividedTerms.{quotients, divisor_nonzero, divided_whole, divided_terms}
-use Rattle.ct_poly.proofs.WholeQuotients.{int_div-*, positive_abs}
+use Rattle.ct_poly.proofs.WholeQuotients.{abs_of, int_div-*, positive_abs}
 
 -- ---- signed multiples
 
-abs-neg : (n : ℕ) → unsigned_abs (neg_ℤ (pos n)) ≡ n
-abs-neg zero = refl
-abs-neg (suc n) = refl
-
 pub abs-signed : (b : Bool) (n : ℕ) → unsigned_abs (signed b n) ≡ n
-abs-signed true n = abs-neg n
+abs-signed true n = abs_of n
 abs-signed false n = refl
 
 neg_times : (k n : ℕ) → neg_ℤ (pos k) *ℤ pos n ≡ neg_ℤ (pos (k * n))

@@ -1,7 +1,7 @@
 -- The leading term of a product is the product of the leading terms: main lemma `product_leads`.
 -- Each further product of two terms has a lower monomial, since products keep the order; and the product of the leading
 -- coefficients is not zero.
-use Rattle.std.proofs.Common.{◌≡◌, refl, ℤ, pos, ◌+ℤ◌, ◌*ℤ◌, T, true, false, cond, List, [], ◌∷◌, Some, Less, sym, ◌∙◌, ap, ap₂, subst}
+use Rattle.std.proofs.Common.{◌≡◌, ℤ, pos, ◌+ℤ◌, ◌*ℤ◌, T, true, false, cond, List, [], ◌∷◌, Some, Less, sym, ◌∙◌, ap, ap₂, subst}
 use Rattle.ct_algebra.specs.Domain.{product_nonzero}
 use Rattle.ct_algebra.specs.Leading.{leading, Leads}
 use Rattle.ct_algebra.specs.Laws.Terms.{at_below, at_head, not_zero, less_is, AllBelow_trans}

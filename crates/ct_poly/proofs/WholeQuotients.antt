@@ -1,8 +1,9 @@
 -- Quotients of whole numbers without a remainder: what `whole_over` finds, and that it finds all.
 -- Main lemmas `whole_over_is`, `whole_over-*` and `whole_over_none`. The remainder of a multiple is a multiple of the divisor
 -- that is smaller than it, so it is zero.
-use Rattle.std.proofs.Common.{◌≡◌, refl, ℕ, zero, suc, ◌*◌, ◌<◌, ℤ, pos, negsuc, ◌+ℤ◌, ◌*ℤ◌, neg_ℤ, unsigned_abs, int_div, int_rem, Bool, true, false, cond, Some, None, sym, ◌∙◌, ap, subst, arith}
+use Rattle.std.proofs.Common.{◌≡◌, refl, ℕ, zero, suc, ◌*◌, ◌/◌, ◌<◌, ◌≤◌, ℤ, pos, negsuc, ◌+ℤ◌, ◌*ℤ◌, neg_ℤ, unsigned_abs, int_div, int_rem, Bool, true, false, cond, Option, Some, None, sym, ◌∙◌, ap, subst, arith}
 use Rattle.std.proofs.lemmas.Int.{ints, quot-rem, rem_below, unsigned_abs-mul}
+use Rattle.std.proofs.Math.Nat.{div-mul-le_self}
 use Rattle.ct_algebra.specs.RingTactic.{ring3, reify}
 use Rattle.ct_algebra.specs.WholeNumbers.{int_ring, int_is_zero, zero_is}
 use Rattle.ct_poly.specs.Division.{whole_over}
@@ -15,6 +16,10 @@ pub positive_abs : (d : ℤ) → (d ≡ pos 0 → ⊥) → 0 < unsigned_abs d
 positive_abs (pos zero) some = absurd (some refl)
 positive_abs (pos (suc n)) some = omega arith
 positive_abs (negsuc n) some = omega arith
+
+pub abs_of : (n : ℕ) → unsigned_abs (neg_ℤ (pos n)) ≡ n
+abs_of zero = refl
+abs_of (suc n) = refl
 
 small_multiple : (m n : ℕ) → m * n < n → m ≡ 0
 small_multiple zero n small = refl
@@ -54,3 +59,24 @@ whole_over-* q d some =
 pub whole_over_none : (c d q : ℤ) → (d ≡ pos 0 → ⊥) → whole_over c d ≡ None → q *ℤ d ≡ c → ⊥
 whole_over_none c d q some missing whole =
     let found : whole_over c d ≡ Some q = subst (λ k. whole_over k d ≡ Some q) whole (whole_over-* q d some) in cc
+
+-- the quotient times the divisor is within the dividend
+pub int_div_small : (c d : ℤ) → unsigned_abs (int_div c d) * unsigned_abs d ≤ unsigned_abs c
+int_div_small (pos a) (pos b) = div-mul-le_self a b
+int_div_small (pos a) (negsuc b) = subst (λ n. n * suc b ≤ a) (sym (abs_of (a / suc b))) (div-mul-le_self a (suc b))
+int_div_small (negsuc a) (pos b) = subst (λ n. n * b ≤ suc a) (sym (abs_of (suc a / b))) (div-mul-le_self (suc a) b)
+int_div_small (negsuc a) (negsuc b) = div-mul-le_self (suc a) (suc b)
+
+-- what the test of a quotient tells
+pub whole_quotient : (c d q : ℤ) → (d ≡ pos 0 → ⊥) → q *ℤ d ≡ c → Some q ≡ whole_over c d
+whole_quotient c d q some whole = sym (ap (λ k. whole_over k d) (sym whole) ∙ whole_over-* q d some)
+
+pub no_whole_quotient : (c d q : ℤ) → (d ≡ pos 0 → ⊥) → q ≡ int_div c d → (q *ℤ d ≡ c → ⊥) → None ≡ whole_over c d
+no_whole_quotient c d q some q_is other = by (whole_over c d) refl
+  where
+    by : (o : Option ℤ) → whole_over c d ≡ o → None ≡ o
+    by None missing = refl
+    by (Some k) found =
+        let whole : k *ℤ d ≡ c = whole_over_is c d k found in
+        let same : q ≡ k = q_is ∙ ap (λ w. int_div w d) (sym whole) ∙ int_div-* k d some in
+        absurd (other (ap (λ w. w *ℤ d) same ∙ whole))

@@ -3,13 +3,13 @@
 --     term_over e d           the same of terms: both monomials and coefficients divide
 --     Dividing                a state: what is left of the dividend, and the sum of the terms found so far
 --     next_term f s           the leading term of the rest over that of f; none where the rest is zero, or it does not divide
---     step_overflow f u s     the kind of the first rule that one more term u breaks, or none
+--     step_rules, step_overflow f u s     the kind of the first rule that one more term u breaks, or none
 --     checked_step f u s      the rest loses u times f, and the quotient gains u
 --     checked_quotient p f    all steps: the quotient where nothing is left at the end, or none
 --     quotient p f            the same, where a division that overflows counts as none
 -- Some(q) has q·f = p, and none says that no polynomial times f is p: laws `checked_quotient_is`, `checked_quotient_none`
 -- and `quotient_is`, in the lemmas on division. A divisor that is zero divides zero alone.
-use Rattle.std.specs.Prelude.{ℕ, suc, zero, ◌+◌, ◌*◌, ℤ, nat_abs, cond, ltb, Ok, Err, None, Some, int_div, int_rem}
+use Rattle.std.specs.Prelude.{ℕ, suc, zero, ◌+◌, ◌*◌, ℤ, unsigned_abs, cond, ltb, Ok, Err, None, Some, int_div, int_rem}
 use Rattle.std.proofs.Common.{Option}
 use Rattle.ct_algebra.specs.Leading.{leading}
 use Rattle.ct_algebra.specs.Monomial.{Mono}
@@ -54,13 +54,18 @@ leading_over None o = None
 unfoldable pub next_term : Polynomial → Dividing → Option (Mono × ℤ)
 next_term f s = leading_over (leading s.rest.terms) (leading f.terms)
 
+-- the rules, from the counts and norms of the rest, of f and of the quotient so far, and the size of the coefficient of u
+abbrev pub step_rules : (rest_count rest_norm by_count by_norm quotient_count quotient_norm size : ℕ) → Option Kind
+step_rules rest_count rest_norm by_count by_norm quotient_count quotient_norm size =
+    broken (ltb most_terms (rest_count + by_count)) Terms
+    (broken (ltb most_terms (quotient_count + 1)) Terms
+    (broken (ltb largest_norm (size * by_norm)) Number
+    (broken (ltb largest_norm (rest_norm + size * by_norm)) Number
+    (broken (ltb largest_norm (quotient_norm + size)) Number None))))
+
 unfoldable pub step_overflow : Polynomial → Mono × ℤ → Dividing → Option Kind
 step_overflow f u s =
-    broken (ltb most_terms (count s.rest + count f)) Terms
-    (broken (ltb most_terms (count s.quotient + 1)) Terms
-    (broken (ltb largest_norm (nat_abs u.1 * norm f)) Number
-    (broken (ltb largest_norm (norm s.rest + nat_abs u.1 * norm f)) Number
-    (broken (ltb largest_norm (norm s.quotient + nat_abs u.1)) Number None))))
+    step_rules (count s.rest) (norm s.rest) (count f) (norm f) (count s.quotient) (norm s.quotient) (unsigned_abs u.1)
 
 -- the rest without u times f, and the quotient with u
 unfoldable pub step_of : Polynomial → Mono × ℤ → Dividing → Dividing

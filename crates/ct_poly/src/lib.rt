@@ -10,6 +10,7 @@
 
 mod content;
 mod derivative;
+mod division;
 pub mod laws;
 mod measures;
 mod order;

@@ -80,7 +80,7 @@ pub(crate) fn negative_of_terms(alloc: Global, ts: &[Term]) -> Result<Vec<Term>,
     Ok(out)
 }
 
-fn negative_of_coef(c: i128) -> i128
+pub(crate) fn negative_of_coef(c: i128) -> i128
     requires { unsigned_abs c ≤ largest_norm }
     ensures { result ≡ neg_ℤ c }
 {
