@@ -20,13 +20,10 @@ use Rattle.ct_ore.specs.Terms.{op_entries}
 use Rattle.ct_ore.specs.CoefficientTerms.{sum_of_parts, size_of, IsWritten}
 use Rattle.ct_ore.specs.Measures.{row_of, all_terms, coefficient_terms}
 use Rattle.ct_ore.specs.Lists.{Fits, StartsOther, AllHave, IsRun, IsRunLength, IsGathering, without_symbols}
+use Rattle.ct_ore.proofs.WrittenOperators.{op_entries-append}
 use Rattle.ct_ore.proofs.WrittenForm.{coefficients_of_sum, all_written}
 
 -- ---- lists of code and their entries
-
-pub op_entries_push : (out : List OpTerm) (t : OpTerm) → op_entries (out ++ t ∷ []) ≡ op_entries out ++ (t.mono, t.coef) ∷ []
-op_entries_push [] t = refl
-op_entries_push (o ∷ out) t = ap (λ es. (o.mono, o.coef) ∷ es) (op_entries_push out t)
 
 length-row_of : (m : Mono) (es : List (Mono × ℤ)) → length (row_of m es) ≡ length es
 length-row_of m [] = refl
@@ -208,7 +205,7 @@ gathering_step {ts} {out} {out'} {rest} {rest'} {more} {t} {run} o head cut symb
     subst₂ (IsGathering ts) (sym pushed) (sym dropped) (record {
       later = next.after;
       whole = g.whole ∙ ap (λ es. op_entries out ++ es) (next.first ∙ ap (λ e. e ∷ next.after) (sym term))
-          ∙ sym (append_assoc (op_entries out) ((o.mono, o.coef) ∷ []) next.after) ∙ ap (λ es. es ++ next.after) (sym (op_entries_push out o));
+          ∙ sym (append_assoc (op_entries out) ((o.mono, o.coef) ∷ []) next.after) ∙ ap (λ es. es ++ next.after) (sym (op_entries-append out (o ∷ [])));
       left = next.rest_is;
       few = omega (arith, g.few, ap length cut.whole, length-append (row_of t.symbols (entries run)) (drop (length run) rest));
       small = omega (arith, g.small, ap size_of cut.whole, sum_by-append (λ (u : CoefficientTerm). nat_abs u.number) (row_of t.symbols (entries run)) (drop (length run) rest));

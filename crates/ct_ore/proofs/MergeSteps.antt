@@ -12,6 +12,7 @@ use Rattle.ct_ore.specs.declared.coefficient_term.CoefficientTerm.{CoefficientTe
 use Rattle.ct_ore.specs.CoefficientTerms.{by_parts, pair_cmp, pair_tied, key, keyed, size_of, IsWritten}
 use Rattle.ct_ore.specs.Lists.{AllBefore, IsBefore, IsMerging, CanMerge, IsMerged}
 use Rattle.ct_ore.proofs.CoefficientSums.{keyed-append}
+use Rattle.ct_ore.proofs.SortedSums.{no_length}
 
 abbrev pub size : CoefficientTerm → ℕ
 size t = nat_abs t.number
@@ -129,10 +130,6 @@ both_gone {ps} {qs} {out} {p} {q} {p'} {q'} {a} {b} ep eq tied none h =
       lengths = omega (arith, g.lengths);
     }
 
-no_length : (ts : List CoefficientTerm) → length ts ≡ 0 → ts ≡ []
-no_length [] e = refl
-no_length (t ∷ ts) e = absurd (omega arith)
-
 pub first_ended :
     {ps qs out all p q : List CoefficientTerm} → CanMerge ps qs → length p ≡ 0 → all ≡ out ++ q → IsMerging ps qs out p q →
     IsMerged ps qs all
@@ -154,10 +151,3 @@ second_ended {ps} {qs} {out} {all} {p} {q} can empty ea h =
       few = omega (arith, h.lengths, ap length ea, length-append out p);
       small = omega (arith, h.sizes, ap size_of ea, sum_by-append size out p);
     }
-
--- the numbers at the heads are small
-pub heads_small :
-    {ps qs out p q p' q' : List CoefficientTerm} {a b : CoefficientTerm} → p ≡ a ∷ p' → q ≡ b ∷ q' →
-    IsMerging ps qs out p q → nat_abs a.number + nat_abs b.number ≤ size_of ps + size_of qs
-heads_small {ps} {qs} {out} {p} {q} {p'} {q'} {a} {b} ep eq h =
-    omega (arith, h.sizes, ap size_of ep, ap size_of eq, sum_by-cons size a p', sum_by-cons size b q')

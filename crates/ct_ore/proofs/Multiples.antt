@@ -1,7 +1,7 @@
 -- A polynomial's terms times the terms of a list, in written form: one row, and two halves whose products are merged.
 -- Main lemmas `sum_of_row`, `sum_of_column`, `sum_of_left_halves`, `sum_of_right_halves`. Cited by the product.
 -- A term keeps the order of names, and the product is additive on either side.
-use Rattle.std.proofs.Common.{◌≡◌, refl, ℕ, ◌+◌, ◌*◌, ◌<◌, ◌≤◌, ℤ, ◌*ℤ◌, nat_abs, List, [], ◌∷◌, ◌++◌, length, sym, ◌∙◌, ap, ap₂, subst, arith, length-append, append-nil, T, cond, true, false}
+use Rattle.std.proofs.Common.{◌≡◌, refl, ℕ, ◌+◌, ◌*◌, ◌<◌, ◌≤◌, ℤ, ◌*ℤ◌, nat_abs, List, [], ◌∷◌, ◌++◌, length, sym, ◌∙◌, ap, ap₂, subst, arith, mul-pos, length-append, append-nil, T, cond, true, false}
 use Rattle.std.specs.Ordering.{ordering_then}
 use Rattle.std.proofs.lemmas.List.{map-append}
 use Rattle.std.proofs.lemmas.List.Concat.{flat_map-append}
@@ -25,7 +25,6 @@ use Rattle.ct_ore.proofs.CoefficientSums.{keyed-append, sum_of_parts-append}
 use Rattle.ct_ore.proofs.PairCounts.{scaled-sum}
 use Rattle.ct_ore.proofs.ProductMeasures.{length-multiplied, size_of-multiplied_by}
 use Rattle.ct_ore.proofs.SortedSums.{told_some, some_number, within_parts, sum_of_itself, sum_of_same, sum_of_both, halves_small}
-use Rattle.ct_ore.proofs.WayLaws.{product_positive}
 
 abbrev size : CoefficientTerm → ℕ
 size t = nat_abs t.number
@@ -73,7 +72,7 @@ scale_heads {us} {vs} {ts} {ws} u t eu et can =
 
 times_some : (x y : ℤ) → 0 < nat_abs x → 0 < nat_abs y → T (cond (int_is_zero (x *ℤ y)) false true)
 times_some x y p q =
-    told_some (x *ℤ y) (subst (λ n. 0 < n) (sym (unsigned_abs-mul x y)) (product_positive (nat_abs x) (nat_abs y) p q))
+    told_some (x *ℤ y) (subst (λ n. 0 < n) (sym (unsigned_abs-mul x y)) (mul-pos p q))
 
 same_order : (n a b s r : Mono) → pair_cmp (s, n · a) (r, n · b) ≡ pair_cmp (s, a) (r, b)
 same_order n a b s r =

@@ -1,12 +1,12 @@
--- The measures of pairs: each is positive, and sums of them are taken one by one.
--- Main lemmas `name_measure_positive`, `summing_more`, and the rules of a product in `product_rule`.
-use Rattle.std.proofs.Common.{◌≡◌, ◌≢◌, refl, ℕ, zero, suc, ◌+◌, ◌*◌, ◌<◌, ◌≤◌, ltb, eqb, cond, Bool, true, false, List, [], ◌∷◌, map, length, get_or, sym, ◌∙◌, ap, ap₂, subst, arith, Some, None, Option, lt-ltb, le-ltb, eq-eqb, ne_eqb, lit<}
+-- The rules by which a product overflows, and sums of measures, which are taken one by one.
+-- Main lemmas `summing_more`, `by_degree` .. `by_norm`, and `pairs_count`: each pair makes a term at least.
+use Rattle.std.proofs.Common.{◌≡◌, ◌≢◌, refl, ℕ, zero, suc, ◌+◌, ◌*◌, ◌<◌, ◌≤◌, ltb, eqb, cond, Bool, true, false, List, [], ◌∷◌, map, length, get_or, sym, ◌∙◌, ap, ap₂, subst, arith, Some, None, Option, lt-ltb, le-ltb, eq-eqb, ne_eqb, mul-pos}
 use Rattle.std.specs.Prelude.{slice_get}
 use Rattle.std.proofs.lemmas.List.Sums.{sum_by-cons}
 use Rattle.std.proofs.lemmas.List.Sums.{get_or-le-sum_by}
 use Rattle.ct_algebra.specs.Monomial.{Mono, exp, total, sum_six}
 use Rattle.ct_algebra.specs.Names.{Name, x0, x1, x2, x3, x4, x5, place, name_with}
-use Rattle.ct_algebra.specs.Actions.{Action, Shift, Derive, Still}
+use Rattle.ct_algebra.specs.Actions.{Action, Still}
 use Rattle.ct_algebra.specs.Polynomial.{Polynomial, degree}
 use Rattle.ct_algebra.specs.Operators.{Operator}
 use Rattle.ct_mono.specs.Limits.{largest_degree, most_terms, largest_norm}
@@ -22,19 +22,8 @@ use Rattle.ct_ore.specs.Lists.{IsPartsOf}
 use Rattle.ct_ore.specs.PairMeasures.{name_measure, pair_measure, measure_of_row, measure_of_pairs}
 use Rattle.ct_ore.specs.Measures.{all_terms, coefficient_terms, greatest, product_overflow, coefficient_degree, order_of, product_count, product_norm}
 use Rattle.ct_ore.specs.Bounds.{IsCapped, IsSumming}
-use Rattle.ct_ore.proofs.WayLaws.{power_positive, product_positive, way-le-weight}
-
-pub name_measure_positive : (w : Bool) (t : Action) (k e : ℕ) → 0 < name_measure w t k e
-name_measure_positive true Shift k e = power_positive (1 + k) e (omega arith)
-name_measure_positive true Derive k e = omega (arith, way-le-weight k e 0)
-name_measure_positive true Still k e = lit< tt
-name_measure_positive false Shift k e = by (ltb 0 k)
-  where
-    by : (b : Bool) → 0 < cond b (e + 1) 1
-    by true = omega arith
-    by false = lit< tt
-name_measure_positive false Derive k e = omega arith
-name_measure_positive false Still k e = lit< tt
+use Rattle.ct_poly.proofs.TermLists.{place-name_with}
+use Rattle.ct_ore.proofs.PairWeightLaws.{how_many-positive}
 
 pub summing_start : (all : ℕ) → IsSumming all all (Some 0)
 summing_start all = record { done = 0; capped = (refl, omega arith); rest = omega arith }
@@ -61,18 +50,9 @@ exp-le-total m i h = get_or-le-sum_by (λ x. x) m.exps i 0 (subst (λ n. i < n) 
 
 -- ---- what an algebra's names do
 
-place_is : (i : ℕ) → i < 6 → place (name_with i) ≡ i
-place_is zero h = refl
-place_is (suc zero) h = refl
-place_is (suc (suc zero)) h = refl
-place_is (suc (suc (suc zero))) h = refl
-place_is (suc (suc (suc (suc zero)))) h = refl
-place_is (suc (suc (suc (suc (suc zero))))) h = refl
-place_is (suc (suc (suc (suc (suc (suc i)))))) h = absurd (omega arith)
-
 pub known_action : (ns : List Naming) (n : Naming) (i : ℕ) → i < 6 → slice_get ns i ≡ Some n → actions_of ns (name_with i) ≡ n.action
 unfolding actions_of
-known_action ns n i h known = ap (λ k. get_or (map (λ (m : Naming). m.action) ns) k Still) (place_is i h) ∙ go ns i known
+known_action ns n i h known = ap (λ k. get_or (map (λ (m : Naming). m.action) ns) k Still) (place-name_with i h) ∙ go ns i known
   where
     go : (ns : List Naming) (i : ℕ) → slice_get ns i ≡ Some n → get_or (map (λ (m : Naming). m.action) ns) i Still ≡ n.action
     go [] i known = cc
@@ -81,7 +61,7 @@ known_action ns n i h known = ap (λ k. get_or (map (λ (m : Naming). m.action) 
 
 pub no_action : (ns : List Naming) (i : ℕ) → i < 6 → length ns ≤ i → actions_of ns (name_with i) ≡ Still
 unfolding actions_of
-no_action ns i h past = ap (λ k. get_or (map (λ (m : Naming). m.action) ns) k Still) (place_is i h) ∙ go ns i past
+no_action ns i h past = ap (λ k. get_or (map (λ (m : Naming). m.action) ns) k Still) (place-name_with i h) ∙ go ns i past
   where
     go : (ns : List Naming) (i : ℕ) → length ns ≤ i → get_or (map (λ (m : Naming). m.action) ns) i Still ≡ Still
     go [] i past = refl
@@ -130,9 +110,9 @@ module _ (a : Name → Action) (p q : Operator) where
             broken b Number None ≡ product_overflow a p q
         by_norm within b over = sym (second ∙ ap (λ b. broken b Terms (broken (ltb largest_norm (product_norm a p q)) Number None)) within ∙ ap (λ b. broken b Number None) over)
 
-pub over_names_positive : (f : Name → ℕ) → ((i : Name) → 0 < f i) → 0 < over_names f
+over_names_positive : (f : Name → ℕ) → ((i : Name) → 0 < f i) → 0 < over_names f
 over_names_positive f some =
-    product_positive _ (f x5) (product_positive _ (f x4) (product_positive _ (f x3) (product_positive _ (f x2) (product_positive (f x0) (f x1) (some x0) (some x1)) (some x2)) (some x3)) (some x4)) (some x5)
+    mul-pos (mul-pos (mul-pos (mul-pos (mul-pos (some x0) (some x1)) (some x2)) (some x3)) (some x4)) (some x5)
 
 -- ---- what code reads of two operators
 
@@ -169,7 +149,7 @@ row_counts :
     (a : Name → Action) (s : CoefficientTerm) (qs : List CoefficientTerm) → length qs ≤ measure_of_row a false s qs
 row_counts a s [] = omega arith
 row_counts a s (t ∷ qs) =
-    let some : 0 < pair_measure a false s t = over_names_positive (λ i. name_measure false (a i) (exp s.symbols (place i)) (exp t.names (place i))) (λ i. name_measure_positive false (a i) (exp s.symbols (place i)) (exp t.names (place i))) in
+    let some : 0 < pair_measure a false s t = over_names_positive (λ i. name_measure false (a i) (exp s.symbols (place i)) (exp t.names (place i))) (λ i. how_many-positive (a i) (exp s.symbols (place i)) (exp t.names (place i))) in
     omega (arith, row_counts a s qs, sum_by-cons (pair_measure a false s) t qs)
 
 pub pairs_count :

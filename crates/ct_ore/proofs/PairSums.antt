@@ -16,7 +16,7 @@ use Rattle.ct_ore.specs.PairMeasures.{name_measure, names_measure, term_measure,
 use Rattle.ct_ore.proofs.PairCounts.{sum_by-same, sum_by-scaled, scaled-sum, length-is}
 use Rattle.ct_ore.proofs.PairMeasureLaws.{six_total}
 use Rattle.ct_ore.proofs.ProductMeasures.{sum_by-all_terms}
-use Rattle.ct_ore.proofs.WayLaws.{power_of_one}
+use Rattle.ct_ore.proofs.PairWeightLaws.{power_of_one}
 
 module _ (a : Name → Action) where
   row_weighs :

@@ -1,11 +1,10 @@
 -- Binomial numbers and falling powers: what the count and the weight of a pair are made of.
 -- Main lemmas: `ways-next` (from the number before one term to the next, as code goes), `ways_in_all-is` (all of them add
--- up to the weight), `derivation_weight-min` and `pair_weight-positive`. By induction over Pascal's rule.
+-- up to the weight), `derivation_weight-min`, `weight_by-positive` and `how_many-positive`. By induction over Pascal's rule.
 use Rattle.std.proofs.Common.{◌≡◌, refl, ℕ, zero, suc, ◌+◌, ◌-◌, ◌*◌, ◌^◌, ◌<◌, ◌≤◌, min, cond, Bool, true, false, sym, ◌∙◌, ap, ap₂, subst, arith, ltb, pow-suc, mul-zero, zero-mul, eq-or-lt_of_le, mul-pos, inl, inr, ◌⊎◌, lt-ltb}
 use native.Mathlib.Nat.{pow-zero}
-use Rattle.ct_algebra.specs.Names.{Name}
 use Rattle.ct_algebra.specs.Actions.{Action, Shift, Derive, Still, by_action}
-use Rattle.ct_ore.specs.PairWeights.{choose, falling_power, ways_below, derivation_weight, pair_count, pair_weight}
+use Rattle.ct_ore.specs.PairWeights.{choose, falling_power, ways_below, derivation_weight}
 use Rattle.ct_ore.specs.PairTerms.{how_many, ways}
 
 -- ---- past the end
@@ -134,16 +133,16 @@ shift_ways (suc e) k =
     multiplied : (p k : ℕ) → (p + 0) + k * p ≡ p * (1 + k)
     multiplied p k = omega arith
 
-one_to : (e : ℕ) → (1 + 0) ^ e ≡ 1
-one_to zero = refl
-one_to (suc e) = pow-suc (1 + 0) e ∙ ap (λ n. n * 1) (one_to e)
+pub power_of_one : (m : ℕ) → 1 ^ m ≡ 1
+power_of_one zero = refl
+power_of_one (suc m) = pow-suc 1 m ∙ omega (arith, power_of_one m)
 
 -- what `pair_weight` says, by the action
 abbrev pub weight_by : Action → ℕ → ℕ → ℕ
 weight_by t k e = by_action t ((1 + k) ^ e) (derivation_weight k e) 1
 
 pub ways_in_all-is : (t : Action) (k e : ℕ) → ways_in_all t (how_many t k e) k e ≡ weight_by t k e
-ways_in_all-is Shift zero e = sym (one_to e)
+ways_in_all-is Shift zero e = sym (power_of_one e)
 ways_in_all-is Shift (suc k) e =
     let some : cond (ltb 0 (suc k)) (e + 1) 1 ≡ e + 1 = ap (λ b. cond b (e + 1) 1) (lt-ltb 0 (suc k) (omega arith)) in
     let one_more : e + 1 ≡ suc e = omega arith in
@@ -202,10 +201,3 @@ how_many-positive Shift k e = by (ltb 0 k)
     by false = omega arith
 how_many-positive Derive k e = omega arith
 how_many-positive Still k e = omega arith
-
-module _ (a : Name → Action) (i : Name) where
-  pub pair_weight-positive : (k e : ℕ) → 0 < pair_weight a i k e
-  pair_weight-positive k e = weight_by-positive (a i) k e
-
-  pub pair_count-positive : (k e : ℕ) → 0 < pair_count a i k e
-  pair_count-positive k e = how_many-positive (a i) k e

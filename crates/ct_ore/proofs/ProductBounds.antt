@@ -1,6 +1,6 @@
 -- Totals and sizes on the way of a product: each step stays within the measures of the whole.
 -- Main lemmas `can_raise_rest`, `way_fits`, `can_expand`, `can_scale`, `can_multiply_parts`. Cited by the code that makes the terms.
-use Rattle.std.proofs.Common.{◌≡◌, ℕ, zero, suc, ◌+◌, ◌-◌, ◌*◌, ◌<◌, ◌≤◌, ℤ, pos, ◌*ℤ◌, nat_abs, List, [], ◌∷◌, ◌++◌, sym, ◌∙◌, ap, subst, arith, eq-or-lt_of_le, mul-le-mul_left, ◌⊎◌, inl, inr, lit<}
+use Rattle.std.proofs.Common.{◌≡◌, ℕ, zero, suc, ◌+◌, ◌-◌, ◌*◌, ◌<◌, ◌≤◌, ℤ, pos, ◌*ℤ◌, nat_abs, List, [], ◌∷◌, ◌++◌, sym, ◌∙◌, ap, subst, arith, eq-or-lt_of_le, mul-le-mul_left, mul-pos, ◌⊎◌, inl, inr, lit<}
 use Rattle.std.proofs.lemmas.List.Sums.{sum_by-append, sum_by_push}
 use Rattle.std.proofs.lemmas.Int.{unsigned_abs-mul}
 use Rattle.ct_algebra.specs.Monomial.{Mono, exp, total}
@@ -22,8 +22,7 @@ use Rattle.ct_ore.proofs.Expansion.{product_parts}
 use Rattle.ct_ore.proofs.Multiples.{each_parts}
 use Rattle.ct_ore.proofs.PairCounts.{scaled-sum}
 use Rattle.ct_ore.proofs.PairMeasureLaws.{six_total}
-use Rattle.ct_ore.proofs.ProductMeasures.{EachIsWithin, each_is_smaller, size_of-multiplied_by}
-use Rattle.ct_ore.proofs.WayLaws.{product_positive}
+use Rattle.ct_ore.proofs.ProductMeasures.{from5, from4, from3, from2, from1, EachIsWithin, each_is_smaller, size_of-multiplied_by}
 use Rattle.ct_ore.proofs.WayPositive.{ways-positive}
 
 abbrev size : CoefficientTerm → ℕ
@@ -31,7 +30,7 @@ size t = nat_abs t.number
 
 -- ---- lists of terms within bounds
 
-within-append : (b d : ℕ) (xs ys : List CoefficientTerm) → EachWithin b d xs → EachWithin b d ys → EachWithin b d (xs ++ ys)
+pub within-append : (b d : ℕ) (xs ys : List CoefficientTerm) → EachWithin b d xs → EachWithin b d ys → EachWithin b d (xs ++ ys)
 within-append b d [] ys h k = k
 within-append b d (x ∷ xs) ys h k = (h.0, within-append b d xs ys h.1 k)
 
@@ -60,7 +59,7 @@ within-lowered :
 within-lowered b d t i k u j known below h = record {
   symbols = omega (arith, h.symbols, left-le t k j, total-with_exponent i (exp u.symbols i + symbols_left t k j) u.symbols known);
   names = omega (arith, h.names, total-with_exponent i (exp u.names i - j) u.names known);
-  some = subst (λ n. 0 < n) (sym (unsigned_abs-mul u.number (pos (ways t k (exp u.names i) j)))) (product_positive (nat_abs u.number) (ways t k (exp u.names i) j) h.some (ways-positive t k (exp u.names i) j below));
+  some = subst (λ n. 0 < n) (sym (unsigned_abs-mul u.number (pos (ways t k (exp u.names i) j)))) (mul-pos h.some (ways-positive t k (exp u.names i) j below));
 }
 
 pub within-raised :
@@ -123,41 +122,26 @@ way_fits t i k u j can below =
 -- ---- a product of symbols, name after name
 
 module _ (a : Name → Action) (m : Mono) (ts : List CoefficientTerm) where
-  abbrev pub list5 : List CoefficientTerm
-  list5 = raised (a x5) 5 (exp m 5) ts
-
-  abbrev pub list4 : List CoefficientTerm
-  list4 = raised (a x4) 4 (exp m 4) list5
-
-  abbrev pub list3 : List CoefficientTerm
-  list3 = raised (a x3) 3 (exp m 3) list4
-
-  abbrev pub list2 : List CoefficientTerm
-  list2 = raised (a x2) 2 (exp m 2) list3
-
-  abbrev pub list1 : List CoefficientTerm
-  list1 = raised (a x1) 1 (exp m 1) list2
-
   module _ (b d : ℕ) (h : EachWithin b d ts) where
-    within5 : EachWithin (b + exp m 5) d list5
+    within5 : EachWithin (b + exp m 5) d (from5 a m ts)
     within5 = within-raised b d (a x5) 5 (exp m 5) ts (lit< tt) h
 
-    within4 : EachWithin (b + exp m 5 + exp m 4) d list4
-    within4 = within-raised (b + exp m 5) d (a x4) 4 (exp m 4) list5 (lit< tt) within5
+    within4 : EachWithin (b + exp m 5 + exp m 4) d (from4 a m ts)
+    within4 = within-raised (b + exp m 5) d (a x4) 4 (exp m 4) (from5 a m ts) (lit< tt) within5
 
-    within3 : EachWithin (b + exp m 5 + exp m 4 + exp m 3) d list3
-    within3 = within-raised (b + exp m 5 + exp m 4) d (a x3) 3 (exp m 3) list4 (lit< tt) within4
+    within3 : EachWithin (b + exp m 5 + exp m 4 + exp m 3) d (from3 a m ts)
+    within3 = within-raised (b + exp m 5 + exp m 4) d (a x3) 3 (exp m 3) (from4 a m ts) (lit< tt) within4
 
-    within2 : EachWithin (b + exp m 5 + exp m 4 + exp m 3 + exp m 2) d list2
-    within2 = within-raised (b + exp m 5 + exp m 4 + exp m 3) d (a x2) 2 (exp m 2) list3 (lit< tt) within3
+    within2 : EachWithin (b + exp m 5 + exp m 4 + exp m 3 + exp m 2) d (from2 a m ts)
+    within2 = within-raised (b + exp m 5 + exp m 4 + exp m 3) d (a x2) 2 (exp m 2) (from3 a m ts) (lit< tt) within3
 
-    within1 : EachWithin (b + exp m 5 + exp m 4 + exp m 3 + exp m 2 + exp m 1) d list1
-    within1 = within-raised (b + exp m 5 + exp m 4 + exp m 3 + exp m 2) d (a x1) 1 (exp m 1) list2 (lit< tt) within2
+    within1 : EachWithin (b + exp m 5 + exp m 4 + exp m 3 + exp m 2 + exp m 1) d (from1 a m ts)
+    within1 = within-raised (b + exp m 5 + exp m 4 + exp m 3 + exp m 2) d (a x1) 1 (exp m 1) (from2 a m ts) (lit< tt) within2
 
     pub within-expanded : EachWithin (b + total m) d (expanded a m ts)
     unfolding expanded
     within-expanded =
-        within-weaker (b + exp m 5 + exp m 4 + exp m 3 + exp m 2 + exp m 1 + exp m 0) d (b + total m) d (omega (arith, six_total m)) (omega arith) _ (within-raised (b + exp m 5 + exp m 4 + exp m 3 + exp m 2 + exp m 1) d (a x0) 0 (exp m 0) list1 (lit< tt) within1)
+        within-weaker (b + exp m 5 + exp m 4 + exp m 3 + exp m 2 + exp m 1 + exp m 0) d (b + total m) d (omega (arith, six_total m)) (omega arith) _ (within-raised (b + exp m 5 + exp m 4 + exp m 3 + exp m 2 + exp m 1) d (a x0) 0 (exp m 0) (from1 a m ts) (lit< tt) within1)
 
   module _ (can : CanExpand a m ts) where
     abbrev b : ℕ
@@ -169,19 +153,19 @@ module _ (a : Name → Action) (m : Mono) (ts : List CoefficientTerm) where
     pub can5 : CanRaise (a x5) 5 (exp m 5) ts
     can5 = record { order = b; room = omega (arith, can.room, six_total m); each = can.each; small = omega (arith, can.small, smaller.after5) }
 
-    pub can4 : CanRaise (a x4) 4 (exp m 4) list5
+    pub can4 : CanRaise (a x4) 4 (exp m 4) (from5 a m ts)
     can4 = record { order = b + exp m 5; room = omega (arith, can.room, six_total m); each = within5 b largest_degree can.each; small = omega (arith, can.small, smaller.after4) }
 
-    pub can3 : CanRaise (a x3) 3 (exp m 3) list4
+    pub can3 : CanRaise (a x3) 3 (exp m 3) (from4 a m ts)
     can3 = record { order = b + exp m 5 + exp m 4; room = omega (arith, can.room, six_total m); each = within4 b largest_degree can.each; small = omega (arith, can.small, smaller.after3) }
 
-    pub can2 : CanRaise (a x2) 2 (exp m 2) list3
+    pub can2 : CanRaise (a x2) 2 (exp m 2) (from3 a m ts)
     can2 = record { order = b + exp m 5 + exp m 4 + exp m 3; room = omega (arith, can.room, six_total m); each = within3 b largest_degree can.each; small = omega (arith, can.small, smaller.after2) }
 
-    pub can1 : CanRaise (a x1) 1 (exp m 1) list2
+    pub can1 : CanRaise (a x1) 1 (exp m 1) (from2 a m ts)
     can1 = record { order = b + exp m 5 + exp m 4 + exp m 3 + exp m 2; room = omega (arith, can.room, six_total m); each = within2 b largest_degree can.each; small = omega (arith, can.small, smaller.after1) }
 
-    pub can0 : CanRaise (a x0) 0 (exp m 0) list1
+    pub can0 : CanRaise (a x0) 0 (exp m 0) (from1 a m ts)
     unfolding expanded
     can0 = record { order = b + exp m 5 + exp m 4 + exp m 3 + exp m 2 + exp m 1; room = omega (arith, can.room, six_total m); each = within1 b largest_degree can.each; small = can.small }
 

@@ -16,7 +16,7 @@ use Rattle.ct_ore.specs.CoefficientTerms.{size_of}
 use Rattle.ct_ore.specs.Measures.{row_of, all_terms, coefficient_terms, count_of_pair, weight_of_pair, product_count, product_norm}
 use Rattle.ct_ore.specs.PairWeights.{over_names, pair_count, pair_weight}
 use Rattle.ct_ore.specs.PairTerms.{raised, expanded, multiplied, multiplied_by, product_terms}
-use Rattle.ct_ore.proofs.PairCounts.{sum_by-same, sum_by-flat_map, sum_by-scaled, raised-count, raised-size, length-raised, size_of-raised, raised-longer, raised-larger}
+use Rattle.ct_ore.proofs.PairCounts.{sum_by-same, sum_by-flat_map, sum_by-scaled, raised-count, raised-size, length-raised, size_of-raised, raised-larger}
 
 -- ---- a product over the names, without those that change
 
@@ -137,9 +137,6 @@ module _ (a : Name → Action) where
         after2 = omega arith;
         after1 = omega arith;
       }
-
-  pub each_is_shorter : (m : Mono) (ts : List CoefficientTerm) → EachIsWithin (λ us. length us) m ts
-  each_is_shorter m ts = rising (λ us. length us) (λ i k us. raised-longer (a i) (place i) k us) m ts
 
   pub each_is_smaller : (m : Mono) (ts : List CoefficientTerm) → EachIsWithin size_of m ts
   each_is_smaller m ts = rising size_of (λ i k us. raised-larger (a i) (place i) k us) m ts

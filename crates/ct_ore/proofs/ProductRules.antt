@@ -1,6 +1,6 @@
 -- A product that no rule refuses: its terms can be made, and what they add up to is the product.
 -- Main lemmas `none_fits` (what holds where no rule is broken), `can_multiply`, `answers_value`. Cited by the product of operators.
-use Rattle.std.proofs.Common.{◌≡◌, ◌≢◌, refl, ℕ, ◌+◌, ◌*◌, ◌<◌, ◌≤◌, cond, Bool, true, false, ℤ, nat_abs, List, [], ◌∷◌, ◌++◌, map, length, sym, ◌∙◌, ap, ap₂, subst, arith, Some, None, Option, Ok, Err, T, ltb-false, IsTrue}
+use Rattle.std.proofs.Common.{◌≡◌, ◌≢◌, refl, ℕ, ◌+◌, ◌*◌, ◌<◌, ◌≤◌, cond, Bool, true, false, ℤ, nat_abs, List, [], ◌∷◌, map, length, sym, ◌∙◌, ap, ap₂, subst, arith, Some, None, Option, Ok, Err, T, ltb-false, IsTrue}
 use Rattle.std.proofs.lemmas.List.Sums.{sum_by-cons}
 use Rattle.ct_algebra.specs.Group.{none_added}
 use Rattle.ct_algebra.specs.Terms.{EachTerm, IsCanonical}
@@ -24,6 +24,7 @@ use Rattle.ct_ore.specs.PairTerms.{product_terms}
 use Rattle.ct_ore.specs.Bounds.{EachWithin, HasRoom, CanMultiply}
 use Rattle.ct_ore.specs.Lists.{Fits, IsSum}
 use Rattle.ct_ore.proofs.PairMeasureLaws.{begin, none_of_zero, nonzero_product}
+use Rattle.ct_ore.proofs.ProductBounds.{within-append}
 use Rattle.ct_ore.proofs.PairProduct.{product-value}
 use Rattle.ct_ore.proofs.ProductMeasures.{product_count-is, product_norm-is}
 use Rattle.ct_ore.proofs.SortedSums.{some_number}
@@ -101,16 +102,12 @@ lower : (d g : ℕ) (us : List (Mono × ℤ)) → d ≤ g → EachTerm (λ n x. 
 lower d g [] below each = tt
 lower d g (u ∷ us) below each = (omega (arith, each.0), lower d g us below each.1)
 
-append_within : (b d : ℕ) (xs ys : List CoefficientTerm) → EachWithin b d xs → EachWithin b d ys → EachWithin b d (xs ++ ys)
-append_within b d [] ys h k = k
-append_within b d (x ∷ xs) ys h k = (h.0, append_within b d xs ys h.1 k)
-
 all_within :
     (b d : ℕ) (es : List (Mono × Polynomial)) → greatest (map (λ (e : Mono × Polynomial). total e.0) es) ≤ b →
     greatest (map (λ (e : Mono × Polynomial). degree e.1) es) ≤ d → EachWithin b d (all_terms es)
 all_within b d [] orders degrees = tt
 all_within b d (e ∷ es) orders degrees =
-    append_within b d (row_of e.0 e.1.terms) (all_terms es)
+    within-append b d (row_of e.0 e.1.terms) (all_terms es)
     (row_within b d e.0 e.1.terms (omega arith) e.1.canonical (lower (degree e.1) d e.1.terms (omega arith) (degree_greatest e.1)))
     (all_within b d es (omega arith) (omega arith))
 

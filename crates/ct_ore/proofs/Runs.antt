@@ -12,7 +12,7 @@ use Rattle.ct_ore.proofs.MergeSteps.{below_at}
 
 not_above : (y x : CoefficientTerm) → pair_cmp (key y) (key x) ≡ Less → mono_cmp y.symbols x.symbols ≡ Greater → ⊥
 not_above y x less greater =
-    cc (sym less ∙ pair_cmp_is (key y) (key x), ap (λ r. ordering_then r (mono_cmp y.names x.names)) greater)
+    cc (sym less ∙ pair_cmp_is (key y) (key x) ∙ ap (λ r. ordering_then r (mono_cmp y.names x.names)) greater)
 
 same_between : (m y : Mono) → (mono_cmp y m ≡ Greater → ⊥) → (mono_cmp m y ≡ Greater → ⊥) → y ≡ m
 same_between m y low high = by (mono_cmp y m) refl

@@ -1,7 +1,8 @@
 use Rattle.std.proofs.Common.{◌≡◌, ◌+◌, min, sym, ◌∙◌, ap, subst, arith}
 use Rattle.ct_ore.specs.PairWeights.{derivation_weight, ways_below}
 use Rattle.ct_ore.specs.Bounds.{IsCapped}
-use Rattle.ct_ore.proofs.WayLaws.{weight_ends, way-le-weight}
+use Rattle.ct_ore.proofs.PairWeightLaws.{derivation_weight-min}
+use Rattle.ct_ore.proofs.WayLaws.{way-le-weight}
 use Rattle.ct_ore.proofs.ways.derivation_weight.Goals as goal
 
 pub returns-in_err-way : goal.returns-in_err-way
@@ -12,4 +13,4 @@ returns-in_err-way c =
 pub returns : goal.returns
 returns c =
     let end : c.loop-j.j ≡ min c.args.k c.args.e + 1 = omega (arith, c.loop-j.auto.j-end, c.min-j-end.ensures) in
-    subst (λ v. IsCapped v c.loop-j.weight) (ap (λ m. ways_below m c.args.k c.args.e) end ∙ weight_ends c.args.k c.args.e) c.loop-j.invariant.sum
+    subst (λ v. IsCapped v c.loop-j.weight) (ap (λ m. ways_below m c.args.k c.args.e) end ∙ sym (derivation_weight-min c.args.k c.args.e)) c.loop-j.invariant.sum

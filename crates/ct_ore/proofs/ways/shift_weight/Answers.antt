@@ -1,7 +1,7 @@
 use Rattle.std.proofs.Common.{◌≡◌, ◌+◌, ◌*◌, ◌^◌, sym, ◌∙◌, ap, subst, rules, arith, lit≤}
 use Rattle.std.proofs.Math.Nat.{pow-suc}
 use Rattle.ct_ore.specs.Bounds.{IsCapped}
-use Rattle.ct_ore.proofs.WayLaws.{power_of_one}
+use Rattle.ct_ore.proofs.PairWeightLaws.{power_of_one}
 use Rattle.ct_ore.proofs.ways.shift_weight.Goals as goal
 
 pub returns-then-k-eq0 : goal.returns-then-k-eq0
