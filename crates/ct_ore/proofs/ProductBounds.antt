@@ -1,5 +1,5 @@
 -- Totals and sizes on the way of a product: each step stays within the measures of the whole.
--- Main lemmas `can_raise_rest`, `way_fits`, `can_expand`, `can_scale`, `can_multiply_parts`. Cited by the code that makes the terms.
+-- Main lemmas `way_fits`, `can_expand`, `can_scale`, `can_multiply_parts`. Cited by the code that makes the terms.
 use Rattle.std.proofs.Common.{◌≡◌, ℕ, zero, suc, ◌+◌, ◌-◌, ◌*◌, ◌<◌, ◌≤◌, ℤ, pos, ◌*ℤ◌, nat_abs, List, [], ◌∷◌, ◌++◌, sym, ◌∙◌, ap, subst, arith, eq-or-lt_of_le, mul-le-mul_left, mul-pos, ◌⊎◌, inl, inr, lit<}
 use Rattle.std.proofs.lemmas.List.Sums.{sum_by-append, sum_by_push}
 use Rattle.std.proofs.lemmas.Int.{unsigned_abs-mul}
@@ -76,26 +76,6 @@ size-raised-cons :
     (t : Action) (i k : ℕ) (u : CoefficientTerm) (ts : List CoefficientTerm) →
     size_of (raised t i k (u ∷ ts)) ≡ size_of (raised_term t i k u) + size_of (raised t i k ts)
 size-raised-cons t i k u ts = sum_by-append size (raised_term t i k u) (raised t i k ts)
-
-pub can_raise_first :
-    {t : Action} {i k : ℕ} {ts : List CoefficientTerm} (u : CoefficientTerm) (more : List CoefficientTerm) → ts ≡ u ∷ more →
-    CanRaise t i k ts → CanRaise t i k (u ∷ [])
-can_raise_first {t} {i} {k} u more same can = record {
-  order = can.order;
-  room = can.room;
-  each = ((subst (EachWithin can.order largest_degree) same can.each).0, tt);
-  small = omega (arith, can.small, ap (λ us. size_of (raised t i k us)) same, size-raised-cons t i k u more, size-raised-cons t i k u []);
-}
-
-pub can_raise_rest :
-    {t : Action} {i k : ℕ} {ts : List CoefficientTerm} (u : CoefficientTerm) (more : List CoefficientTerm) → ts ≡ u ∷ more →
-    CanRaise t i k ts → CanRaise t i k more
-can_raise_rest {t} {i} {k} u more same can = record {
-  order = can.order;
-  room = can.room;
-  each = (subst (EachWithin can.order largest_degree) same can.each).1;
-  small = omega (arith, can.small, ap (λ us. size_of (raised t i k us)) same, size-raised-cons t i k u more);
-}
 
 member-le : (n : ℕ) (f : ℕ → CoefficientTerm) (j : ℕ) → j < n → size (f j) ≤ size_of (listed n f)
 member-le zero f j below = absurd (omega arith)

@@ -11,9 +11,11 @@ mod algebra;
 mod answer;
 mod coefficient_term;
 mod coefficients;
+mod degrees;
 mod measures;
 mod op;
 mod product;
+mod scaling;
 mod sum;
 #[cfg(test)]
 mod tests;

@@ -1,14 +1,13 @@
 // When a product of operators overflows.
-ghost use Rattle.std.specs.Prelude.{◌≡◌, ◌*◌, ◌<◌, ◌≤◌, ℕ, length, map, ltb};
-ghost use Rattle.ct_algebra.specs.Monomial.{exp, total};
+ghost use Rattle.std.specs.Prelude.{◌≡◌, ◌*◌, ◌<◌, ◌≤◌, ℕ, length, ltb};
+ghost use Rattle.ct_algebra.specs.Monomial.{exp};
 ghost use Rattle.ct_algebra.specs.Names.{name_with};
-ghost use Rattle.ct_algebra.specs.Polynomial.{degree};
 ghost use Rattle.ct_algebra.specs.Operators.{Operator};
-ghost use Rattle.ct_mono.specs.Limits.{largest_degree, most_terms, largest_norm};
+ghost use Rattle.ct_mono.specs.Limits.{most_terms, largest_norm};
 ghost use Rattle.ct_ore.specs.Naming.{actions_of, action_of};
 ghost use Rattle.ct_ore.specs.Terms.{op_entries};
 ghost use Rattle.ct_ore.specs.CoefficientTerms.{size_of};
-ghost use Rattle.ct_ore.specs.Measures.{all_terms, greatest, product_overflow};
+ghost use Rattle.ct_ore.specs.Measures.{all_terms, product_overflow};
 ghost use Rattle.ct_ore.specs.Bounds.{IsCapped};
 ghost use Rattle.ct_ore.specs.Lists.{IsPartsOf};
 ghost use Rattle.ct_ore.specs.PairMeasures.{name_measure, names_measure, term_measure, symbols_measure, coefficient_measure, measure_of_pairs};
@@ -16,6 +15,7 @@ ghost use Rattle.ct_ore.specs.PairMeasures.{name_measure, names_measure, term_me
 use crate::algebra::{Action, Algebra};
 use crate::coefficient_term::CoefficientTerm;
 use crate::coefficients::term_count;
+use crate::degrees::{degree_of, order_of, small_exponent};
 use crate::op::OpTerm;
 use crate::sum::size_of_parts;
 use crate::ways::{capped_product, capped_sum, derivation_weight, how_many, shift_weight};
@@ -160,56 +160,6 @@ fn measure_of_name(
         Action::Derive => derivation_weight(k, e),
         Action::Still => Some(1),
     }
-}
-
-// An exponent, which is no larger than the total.
-pub fn small_exponent(m: &Monomial, i: u8) -> u16
-    requires { i < 6 }
-    ensures value { result ≡ exp m.now i }
-    ensures within { result ≤ largest_degree }
-{
-    let _total = m.total();
-    m.exp(i)
-}
-
-// The greatest degree of a coefficient.
-fn degree_of(ps: &[OpTerm]) -> u16
-    ensures value { result ≡ greatest (map (λ e. degree e.1) (op_entries ps.now)) }
-    ensures within { result ≤ largest_degree }
-{
-    let mut most = 0;
-    let mut rest = ps;
-    'searching: while let Some((p, more)) = rest.split_first() {
-        let here = degree_of_poly(&p.coef);
-        most = if here > most { here } else { most };
-        rest = more;
-    }
-    most
-}
-
-fn degree_of_poly(p: &Poly) -> u16
-    ensures value { result ≡ degree p.now }
-    ensures within { result ≤ largest_degree }
-{
-    let Some((t, _)) = p.terms().split_first() else {
-        return 0;
-    };
-    t.mono.total()
-}
-
-// The greatest total of the symbols.
-fn order_of(ps: &[OpTerm]) -> u16
-    ensures value { result ≡ greatest (map (λ e. total e.0) (op_entries ps.now)) }
-    ensures within { result ≤ largest_degree }
-{
-    let mut most = 0;
-    let mut rest = ps;
-    'searching: while let Some((p, more)) = rest.split_first() {
-        let here = p.mono.total();
-        most = if here > most { here } else { most };
-        rest = more;
-    }
-    most
 }
 
 // The first rule that the product of two operators breaks; their terms and the coefficient terms of the right one are given.

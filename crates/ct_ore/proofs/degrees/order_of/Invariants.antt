@@ -3,7 +3,7 @@ use Rattle.ct_algebra.specs.Monomial.{total}
 use Rattle.ct_mono.specs.Limits.{largest_degree}
 use Rattle.ct_ore.specs.Terms.{op_entries}
 use Rattle.ct_ore.specs.Measures.{greatest}
-use Rattle.ct_ore.proofs.measures.order_of.Given as goal
+use Rattle.ct_ore.proofs.degrees.order_of.Given as goal
 
 abbrev pub invariant-searching : goal.invariant-searching
 invariant-searching l = record {

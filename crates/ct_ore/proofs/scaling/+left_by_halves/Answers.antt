@@ -6,7 +6,7 @@ use Rattle.ct_ore.specs.Bounds.{CanScale}
 use Rattle.ct_ore.specs.Lists.{CanMerge, IsMerged}
 use Rattle.ct_ore.proofs.Multiples.{scale_left, merge_left, sum_of_row, sum_of_left_halves}
 use Rattle.ct_ore.proofs.SortedSums.{no_length, only_one, sum_of_none}
-use Rattle.ct_ore.proofs.product.+left_by_halves.Goals as goal
+use Rattle.ct_ore.proofs.scaling.+left_by_halves.Goals as goal
 
 pub returns-then-is_empty : goal.returns-then-is_empty
 returns-then-is_empty t c =

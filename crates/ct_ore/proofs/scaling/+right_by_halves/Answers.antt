@@ -5,7 +5,7 @@ use Rattle.ct_ore.specs.Bounds.{CanScale}
 use Rattle.ct_ore.specs.Lists.{CanMerge, IsMerged}
 use Rattle.ct_ore.proofs.Multiples.{scale_right, merge_right, sum_of_column, sum_of_right_halves, multiplied_by-none}
 use Rattle.ct_ore.proofs.SortedSums.{no_length, only_one, sum_of_none}
-use Rattle.ct_ore.proofs.product.+right_by_halves.Goals as goal
+use Rattle.ct_ore.proofs.scaling.+right_by_halves.Goals as goal
 
 pub returns-then-is_empty : goal.returns-then-is_empty
 returns-then-is_empty t c =

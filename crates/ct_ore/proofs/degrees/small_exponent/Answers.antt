@@ -1,6 +1,6 @@
 use Rattle.std.proofs.Common.{arith}
 use Rattle.ct_ore.proofs.PairMeasureLaws.{exp-le-total}
-use Rattle.ct_ore.proofs.measures.small_exponent.Goals as goal
+use Rattle.ct_ore.proofs.degrees.small_exponent.Goals as goal
 
 pub returns-clause-within : goal.returns-clause-within
 returns-clause-within c =

@@ -2,7 +2,7 @@ use Rattle.std.proofs.Common.{◌≡◌, ◌++◌, ◌∷◌, [], ◌∙◌, sym
 use Rattle.ct_ore.specs.PairTerms.{multiplied}
 use Rattle.ct_ore.proofs.Multiples.{scale_right, scale_heads}
 use Rattle.ct_ore.proofs.SortedSums.{no_length}
-use Rattle.ct_ore.proofs.product.row_of_left.Goals as goal
+use Rattle.ct_ore.proofs.scaling.row_of_left.Goals as goal
 
 pub product_of_both-product-requires : goal.product_of_both-product-requires
 product_of_both-product-requires c =

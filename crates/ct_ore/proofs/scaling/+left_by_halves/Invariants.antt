@@ -1,5 +1,5 @@
 use Rattle.std.proofs.Common.{length}
-use Rattle.ct_ore.proofs.product.+left_by_halves.Given as goal
+use Rattle.ct_ore.proofs.scaling.+left_by_halves.Given as goal
 
 abbrev pub decreases-left_by_halves : goal.decreases-left_by_halves
 decreases-left_by_halves l = length l.us.now

@@ -1,13 +1,12 @@
 use Rattle.std.proofs.Common.{◌≡◌, ◌∷◌, [], ◌++◌, length}
-use Rattle.ct_poly.specs.Terms.{entries}
-use Rattle.ct_ore.specs.PairTerms.{multiplied_by}
+use Rattle.ct_ore.specs.PairTerms.{multiplied}
 use Rattle.ct_ore.specs.Bounds.{CanScale}
-use Rattle.ct_ore.proofs.product.row_of_right.Given as goal
+use Rattle.ct_ore.proofs.scaling.row_of_left.Given as goal
 
 abbrev pub invariant-multiplying : goal.invariant-multiplying
 invariant-multiplying l = record {
-  can : CanScale (entries l.rest) (l.t ∷ []);
-  whole : l.out.items ++ multiplied_by (entries l.rest) (l.t ∷ []) ≡ multiplied_by (entries l.fn.us) (l.t ∷ []);
+  can : CanScale ((l.u.mono, l.u.coef) ∷ []) l.rest;
+  whole : l.out.items ++ multiplied l.u.mono l.u.coef l.rest ≡ multiplied l.u.mono l.u.coef l.fn.ts;
 }
 
 abbrev pub decreases-multiplying : goal.decreases-multiplying

@@ -5,7 +5,7 @@ use Rattle.ct_ore.specs.declared.coefficient_term.CoefficientTerm.{CoefficientTe
 use Rattle.ct_ore.specs.PairTerms.{multiplied_by}
 use Rattle.ct_ore.proofs.Multiples.{scale_left, scale_heads}
 use Rattle.ct_ore.proofs.SortedSums.{no_length}
-use Rattle.ct_ore.proofs.product.row_of_right.Goals as goal
+use Rattle.ct_ore.proofs.scaling.row_of_right.Goals as goal
 
 pub product_of_both-product-requires : goal.product_of_both-product-requires
 product_of_both-product-requires c =
