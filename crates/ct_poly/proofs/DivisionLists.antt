@@ -40,6 +40,13 @@ module _ {rest below divisor others : List Term} {top lead u : Term} (rest_is : 
     coef = parts.1;
   }
 
+  -- the sizes leave room for the merge
+  pub merge_small :
+      (z : ℤ) → z ≡ neg_ℤ u.coef → size_of rest + nat_abs u.coef * size_of divisor ≤ largest_norm → size_of below + nat_abs z * size_of others ≤ largest_norm
+  merge_small z z_is small =
+      let sizes : nat_abs z ≡ nat_abs u.coef = ap nat_abs z_is ∙ abs-neg u.coef in
+      omega (arith, small, sizes, ap size_of rest_is, sum_by-cons size top below, ap (λ n. n * size_of others) sizes, ap (λ n. nat_abs u.coef * n) (ap size_of by_is ∙ sum_by-cons size lead others))
+
   pub can_step :
       (z : ℤ) → z ≡ neg_ℤ u.coef → total top.mono ≤ largest_degree → size_of rest + nat_abs u.coef * size_of divisor ≤ largest_norm →
       CanMultiply (record { mono = u.mono; coef = z } ∷ []) others
@@ -54,19 +61,17 @@ module _ {rest below divisor others : List Term} {top lead u : Term} (rest_is : 
       }
 
   pub rest_is_listed :
-      (z : ℤ) (multiple v : List Term) → z ≡ neg_ℤ u.coef →
-      IsListOf (times (poly_of_terms (record { mono = u.mono; coef = z } ∷ [])) (poly_of_terms others)) (length others) (nat_abs z * size_of others) multiple →
-      IsListOf (plus (poly_of_terms below) (poly_of_terms multiple)) (length below + length multiple) (size_of below + size_of multiple) v →
+      (z : ℤ) (v : List Term) → z ≡ neg_ℤ u.coef →
+      IsListOf (plus (poly_of_terms below) (times (poly_of_terms (record { mono = u.mono; coef = z } ∷ [])) (poly_of_terms others))) (length below + length others) (size_of below + nat_abs z * size_of others) v →
       IsListOf (minus (poly_of_terms rest) (times (term u.mono u.coef) (poly_of_terms divisor))) (length rest + length divisor) (size_of rest + nat_abs u.coef * size_of divisor) v
   unfolding step_of poly_of_terms
-  rest_is_listed z multiple v z_is product sum =
+  rest_is_listed z v z_is sum =
       let sizes : nat_abs z ≡ nat_abs u.coef = ap nat_abs z_is ∙ abs-neg u.coef in
       record {
         falling = sum.falling;
-        value = sum.value ∙ ap (plus (poly_of_terms below)) (product.value
-            ∙ ap (λ w. times w (poly_of_terms others)) (poly_of-one (record { mono = u.mono; coef = z }) ∙ ap (term u.mono) z_is)) ∙ sym stepped;
-        few = omega (arith, sum.few, product.few, ap length rest_is, ap length by_is);
-        small = omega (arith, sum.small, product.small, sizes, ap size_of rest_is, sum_by-cons size top below, ap (λ n. n * size_of others) sizes, ap (λ n. nat_abs u.coef * n) (ap size_of by_is ∙ sum_by-cons size lead others));
+        value = sum.value ∙ ap (plus (poly_of_terms below)) (ap (λ w. times w (poly_of_terms others)) (poly_of-one (record { mono = u.mono; coef = z }) ∙ ap (term u.mono) z_is)) ∙ sym stepped;
+        few = omega (arith, sum.few, ap length rest_is, ap length by_is);
+        small = omega (arith, sum.small, sizes, ap size_of rest_is, sum_by-cons size top below, ap (λ n. n * size_of others) sizes, ap (λ n. nat_abs u.coef * n) (ap size_of by_is ∙ sum_by-cons size lead others));
       }
     where
       stepped : minus (poly_of_terms rest) (times (term u.mono u.coef) (poly_of_terms divisor)) ≡ plus (poly_of_terms below) (times (term u.mono (neg_ℤ u.coef)) (poly_of_terms others))

@@ -21,5 +21,6 @@ pub mod Parts
 pub mod ProductLeads
 pub mod DivisionSteps
 pub mod DivisionLaws
+pub mod MergedMultiples
 pub mod DivisionLists
 pub mod DivisionLoop

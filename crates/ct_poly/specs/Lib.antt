@@ -6,4 +6,5 @@ pub mod ContentLaws
 pub mod Order
 pub mod Parts
 pub mod Powers
+pub mod Accumulation
 pub mod MeasureLaws

@@ -9,11 +9,12 @@ ghost use Rattle.ct_poly.specs.Division.{checked_quotient, quotient, leading_ove
 ghost use Rattle.ct_poly.specs.Measures.{minus};
 ghost use Rattle.ct_poly.specs.Terms.{entries, entry, size_of, IsFalling, IsListOf, poly_of_terms};
 
+use crate::accumulation::sum_with_multiple;
 use crate::content::quotient_of_coefs;
 use crate::measures::norm_of_terms;
 use crate::poly::Poly;
-use crate::product::{multiple_of_terms, product_of_coefs};
-use crate::sum::{negative_of_coef, sum_of_terms};
+use crate::product::product_of_coefs;
+use crate::sum::negative_of_coef;
 use crate::term::Term;
 use ct_mono::{Fault, Kind, LARGEST_DEGREE, LARGEST_NORM, MOST_TERMS, NoMemory};
 use std::alloc::Global;
@@ -176,6 +177,5 @@ fn rest_without(
         mono: u.mono,
         coef: negative_of_coef(u.coef),
     };
-    let multiple = multiple_of_terms(alloc, &negative, others)?;
-    sum_of_terms(alloc, below, multiple.as_slice())
+    sum_with_multiple(alloc, below, &negative, others)
 }

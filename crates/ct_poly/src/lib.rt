@@ -8,6 +8,7 @@
 //! of ct_algebra. Names are given as numbers below six.
 #![tactic(auto)]
 
+mod accumulation;
 mod content;
 mod derivative;
 mod division;

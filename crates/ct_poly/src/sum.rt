@@ -57,7 +57,7 @@ pub(crate) fn sum_of_terms(alloc: Global, ps: &[Term], qs: &[Term]) -> Result<Ve
     }
 }
 
-fn sum_of_coefs(a: i128, b: i128) -> i128
+pub(crate) fn sum_of_coefs(a: i128, b: i128) -> i128
     requires { unsigned_abs a + unsigned_abs b ≤ largest_norm }
     ensures { result ≡ a +ℤ b }
 {
