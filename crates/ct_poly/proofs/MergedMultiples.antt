@@ -1,17 +1,17 @@
 -- The merge of a list with the multiples of another. Main lemmas `product_pushed`, `product_gone` and `accumulation_ended`,
 -- which `sum_with_multiple` cites, and `counted_split`, which `split_above` does.
 -- The products of a term and a falling list fall, so this is a merge of two falling lists; the second is made on the way.
-use Rattle.std.proofs.Common.{◌≡◌, refl, ℕ, suc, ◌+◌, ◌*◌, ◌≤◌, ℤ, pos, ◌+ℤ◌, ◌*ℤ◌, nat_abs, true, List, [], ◌∷◌, ◌++◌, length, Ordering, Less, Equal, Greater, is_eq, ⊎_elim, sym, ◌∙◌, ap, subst, subst₂, arith, append_assoc, append-nil, length-append}
+use Rattle.std.proofs.Common.{◌≡◌, refl, ℕ, suc, ◌+◌, ◌*◌, ◌≤◌, ℤ, pos, ◌+ℤ◌, ◌*ℤ◌, nat_abs, true, List, [], ◌∷◌, ◌++◌, length, Ordering, Less, Equal, Greater, is_eq, is_gt, ⊎_elim, sym, ◌∙◌, ap, subst, subst₂, arith, append_assoc, append-nil, length-append}
 use Rattle.std.proofs.lemmas.List.Sums.{sum_by-cons, sum_by_push}
 use Rattle.std.proofs.lemmas.Int.{ints, unsigned_abs-mul}
-use Rattle.ct_algebra.specs.Laws.Terms.{not_zero}
-use Rattle.ct_algebra.specs.Monomial.{Mono, monomials, mono_cmp, mono_turned_back, mono_tied, ◌·◌}
+use Rattle.ct_algebra.specs.Laws.Terms.{not_zero, less_is}
+use Rattle.ct_algebra.specs.Monomial.{Mono, monomials, mono_cmp, mono_turned, mono_turned_back, mono_tied, ◌·◌}
 use Rattle.ct_algebra.specs.Polynomial.{plus, times}
-use Rattle.ct_algebra.specs.Terms.{IsCanonical, by_order, value_at, pick}
+use Rattle.ct_algebra.specs.Terms.{AllBelow, IsCanonical, by_order, value_at, pick}
 use Rattle.ct_algebra.specs.WholeNumbers.{int_group}
 use Rattle.ct_algebra.proofs.Merging as merging
 use Rattle.ct_mono.specs.Limits.{largest_norm}
-use Rattle.ct_poly.specs.Accumulation.{EachAbove, count_above, BeginsBelow, Joins, Precedes, Meets}
+use Rattle.ct_poly.specs.Accumulation.{EachAbove, count_above, BeginsBelow, IsBlock, Joins, Precedes, Meets}
 use Rattle.ct_poly.specs.declared.term.Term.{Term}
 use Rattle.ct_poly.specs.Terms.{entries, size_of, IsFalling, IsListOf, CanMultiply, poly_of_terms}
 use Rattle.ct_poly.proofs.Merging.{IsMerging, first_taken, second_taken, both_taken, both_gone, second_ended}
@@ -57,7 +57,49 @@ counted_split m (t ∷ front) back count = by (mono_cmp t.mono m) refl count (co
         let later = rest (omega (arith, count)) in
         record { above = (mono_turned_back t.mono m order, later.above); below = later.below }
 
--- ---- meeting
+-- ---- blocks
+
+below_at :
+    (m : Mono) (front : List Term) (a : Term) (more : List Term) → AllBelow monomials int_group m (entries (front ++ a ∷ more)) →
+    mono_cmp a.mono m ≡ Less
+below_at m [] a more below = less_is monomials int_group _ below.0
+below_at m (t ∷ front) a more below = below_at m front a more below.1
+
+-- a block before a term above m is above it
+block_above :
+    (m : Mono) (front : List Term) (a : Term) (more : List Term) → IsFalling (front ++ a ∷ more) → mono_cmp m a.mono ≡ Less →
+    count_above m (entries (front ++ a ∷ more)) ≡ length front + count_above m (entries (a ∷ more))
+block_above m [] a more falling less = omega arith
+block_above m (t ∷ front) a more falling less =
+    let higher : mono_cmp m t.mono ≡ Less = monomials.trans m a.mono t.mono less (below_at t.mono front a more falling.1) in
+    let one : count_above m (entries (t ∷ front ++ a ∷ more)) ≡ suc (count_above m (entries (front ++ a ∷ more))) =
+    ap (λ r. by_order r 0 0 (suc (count_above m (entries (front ++ a ∷ more))))) (mono_turned m t.mono higher) in
+    omega (arith, one, block_above m front a more falling.2 less)
+
+-- the number so far and that of the rest are the whole
+pub record IsCounting (m : Mono) (p : List Term) (number : ℕ) (rest : List Term) : Type 0 where
+  pub falling : IsFalling rest
+  pub count : number + count_above m (entries rest) ≡ count_above m (entries p)
+  pub lengths : number + length rest ≡ length p
+
+pub block_counted :
+    {m : Mono} {p : List Term} {number : ℕ} {rest : List Term} (more : List Term) → IsBlock m rest more → IsCounting m p number rest →
+    IsCounting m p (number + 16) more
+block_counted {m} {p} {number} {rest} [] b c = absurd b.above
+block_counted {m} {p} {number} {rest} (a ∷ more) b c =
+    let d : IsCounting m p number (b.block ++ a ∷ more) = subst (IsCounting m p number) b.whole c in
+    record {
+      falling = merging.back_canonical monomials int_group (entries b.block) (entries (a ∷ more)) (subst (IsCanonical monomials int_group) (entries-append b.block (a ∷ more)) d.falling);
+      count = omega (arith, d.count, b.long, block_above m b.block a more d.falling b.above);
+      lengths = omega (arith, d.lengths, b.long, length-append b.block (a ∷ more));
+    }
+
+-- ---- comparisons
+
+pub greater_is : (o : Ordering) → is_gt o ≡ true → o ≡ Greater
+greater_is Less above = cc
+greater_is Equal above = cc
+greater_is Greater above = refl
 
 pub tied_is : (o : Ordering) → is_eq o ≡ true → o ≡ Equal
 tied_is Less tied = cc
@@ -175,6 +217,10 @@ module _ {ps : List Term} {t : Term} {qs done p q q' : List Term} {b : Term} (q_
 
           alone : Precedes back (times_term t b) c rest → IsMerging ps (multiples t qs) more rest (multiples t q')
           alone a = absurd (not_zero monomials int_group (t.coef *ℤ b.coef) (merging.back_canonical monomials int_group (entries (done ++ front)) (entries (times_term t b ∷ multiples t q')) behind.merging.right).0 (sym a.coef ∙ none))
+
+pub falling_left :
+    {ps : List Term} {t : Term} {qs done p q : List Term} → IsAccumulating ps t qs done p q → IsFalling p
+falling_left {ps} {t} {qs} {done} {p} l = merging.back_canonical monomials int_group (entries done) (entries p) l.merging.merging.left
 
 pub accumulation_ended :
     {ps : List Term} {t : Term} {qs done all p q : List Term} → IsFalling ps → CanMultiply (t ∷ []) qs → length q ≡ 0 → all ≡ done ++ p →

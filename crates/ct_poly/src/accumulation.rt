@@ -1,9 +1,9 @@
 // A list plus a term times another, by one merge: what stands between two products is copied at once.
-ghost use Rattle.std.specs.Prelude.{◌≡◌, ◌+◌, ◌*◌, ◌*ℤ◌, ◌++◌, ◌≤◌, IfOk, length, unsigned_abs, [], ◌∷◌};
+ghost use Rattle.std.specs.Prelude.{◌≡◌, ◌+◌, ◌*◌, ◌*ℤ◌, ◌++◌, ◌≤◌, IfOk, IfSome, length, unsigned_abs, [], ◌∷◌};
 ghost use Rattle.ct_algebra.specs.Monomial.{◌·◌, total};
 ghost use Rattle.ct_algebra.specs.Polynomial.{plus, times};
 ghost use Rattle.ct_mono.specs.Limits.{largest_degree, largest_norm};
-ghost use Rattle.ct_poly.specs.Accumulation.{EachAbove, Meets, count_above};
+ghost use Rattle.ct_poly.specs.Accumulation.{EachAbove, IsBlock, Meets, count_above};
 ghost use Rattle.ct_poly.specs.Terms.{CanMultiply, IsFalling, IsListOf, entries, poly_of_terms, size_of};
 
 use crate::product::product_of_coefs;
@@ -11,6 +11,9 @@ use crate::sum::sum_of_coefs;
 use crate::term::Term;
 use ct_mono::{Monomial, NoMemory};
 use std::alloc::Global;
+
+/// How many terms are passed over at once.
+const BLOCK: usize = 16;
 
 /// The sum of a list and a term times another list, both in falling order.
 pub(crate) fn sum_with_multiple(
@@ -60,6 +63,7 @@ fn product_of_term(t: &Term, u: &Term) -> Term
 
 /// The terms above a monomial, and the others.
 fn split_above<'a>(p: &'a [Term], mono: &Monomial) -> (&'a [Term], &'a [Term])
+    requires { IsFalling p.now }
     ensures whole { p.now ≡ result.0.now ++ result.1.now }
     ensures above { EachAbove mono.now (entries result.0.now) }
     ensures below { count_above mono.now (entries result.1.now) ≡ 0 }
@@ -68,6 +72,35 @@ fn split_above<'a>(p: &'a [Term], mono: &Monomial) -> (&'a [Term], &'a [Term])
 }
 
 fn number_above(p: &[Term], mono: &Monomial) -> usize
+    requires { IsFalling p.now }
+    ensures { result ≡ count_above mono.now (entries p.now) }
+{
+    let mut number = 0;
+    let mut rest = p;
+    'skipping: while let Some(more) = after_block(rest, mono) {
+        number += BLOCK;
+        rest = more;
+    }
+    number + number_above_singly(rest, mono)
+}
+
+/// What follows a block at the front, where it begins above the monomial, as then the block is.
+fn after_block<'a>(p: &'a [Term], mono: &Monomial) -> Option<&'a [Term]>
+    ensures { IfSome result (λ more. IsBlock mono.now p.now more.now) }
+{
+    if p.len() <= BLOCK {
+        return None;
+    }
+    let (_, more) = p.split_at(BLOCK);
+    let (a, _) = more.split_first()?;
+    if a.mono.cmp(mono).is_gt() {
+        Some(more)
+    } else {
+        None
+    }
+}
+
+fn number_above_singly(p: &[Term], mono: &Monomial) -> usize
     ensures { result ≡ count_above mono.now (entries p.now) }
 {
     let mut number = 0;

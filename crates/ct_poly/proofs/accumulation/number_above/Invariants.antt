@@ -1,12 +1,9 @@
-use Rattle.std.proofs.Common.{◌≡◌, ◌+◌, length}
-use Rattle.ct_poly.specs.Accumulation.{count_above}
-use Rattle.ct_poly.specs.Terms.{entries}
+use Rattle.std.proofs.Common.{length}
+use Rattle.ct_poly.proofs.MergedMultiples.{IsCounting}
 use Rattle.ct_poly.proofs.accumulation.number_above.Given as goal
 
--- the number so far and that of the rest are the whole
-abbrev pub invariant-counting : goal.invariant-counting
-invariant-counting l =
-    (l.number + count_above l.mono (entries l.rest) ≡ count_above l.mono (entries l.fn.p)) × (l.number + length l.rest ≡ length l.fn.p)
+abbrev pub invariant-skipping : goal.invariant-skipping
+invariant-skipping l = IsCounting l.mono l.fn.p l.number l.rest
 
-abbrev pub decreases-counting : goal.decreases-counting
-decreases-counting l = length l.rest
+abbrev pub decreases-skipping : goal.decreases-skipping
+decreases-skipping l = length l.rest

@@ -3,11 +3,14 @@ use Rattle.ct_algebra.specs.Monomial.{◌·◌}
 use Rattle.ct_mono.specs.Limits.{largest_norm}
 use Rattle.ct_poly.specs.Accumulation.{EachAbove, Meets, count_above}
 use Rattle.ct_poly.specs.Terms.{entries, size_of}
-use Rattle.ct_poly.proofs.MergedMultiples.{IsSplit, times_term, accumulation_start, meeting_small, product_pushed, product_gone, accumulation_ended}
+use Rattle.ct_poly.proofs.MergedMultiples.{IsSplit, times_term, accumulation_start, falling_left, meeting_small, product_pushed, product_gone, accumulation_ended}
 use Rattle.ct_poly.proofs.accumulation.sum_with_multiple.Goals as goal
 
 pub merging-init : goal.merging-init
 merging-init c = accumulation_start c.requires.first c.requires.second c.in_ok-out.ensures.items
+
+pub split_above-requires : goal.split_above-requires
+split_above-requires c = falling_left c.merging.invariant
 
 pub met-coef-requires-clause-small : goal.met-coef-requires-clause-small
 met-coef-requires-clause-small c =
