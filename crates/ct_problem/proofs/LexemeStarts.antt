@@ -1,7 +1,7 @@
 -- How lexemes begin, and what may come after a rule.
 --     Opens ls                        there is a first lexeme, and it is no `-`
 --     AfterFactor, AfterTerm, AfterSum   the lexemes that come after go on with no such rule
-use Rattle.std.proofs.Common.{◌≡◌, ℕ, suc, ◌+◌, ◌<◌, ◌≤◌, Bool, false, List, [], ◌∷◌, ◌++◌, length, refl, sym, ap, ◌∙◌, subst, arith, length-append}
+use Rattle.std.proofs.Common.{◌≡◌, suc, ◌<◌, ◌≤◌, false, List, [], ◌∷◌, ◌++◌, length, refl, sym, ap, ◌∙◌, subst, arith, length-append}
 use Rattle.ct_token.specs.declared.token.Token.{Token}
 use Rattle.ct_problem.specs.Input.{Input}
 use Rattle.ct_problem.specs.Lexemes.{Lexeme, Texts, one, ◌▸◌, each, lexemes}

@@ -1,242 +1,36 @@
 -- What is read as an expression is spelled so. Main lemma `Spells-expression`, rule by rule.
-use Rattle.std.proofs.Common.{◌≡◌, ◌≢◌, ℕ, zero, suc, ◌==◌, ◌||◌, Bool, true, false, cond, List, [], ◌∷◌, ◌++◌, length, map, Option, Some, None, IsTrue, pos, refl, sym, ap, ◌∙◌, subst, arith, rules, tests, codes}
+use Rattle.std.proofs.Common.{◌≡◌, ℕ, zero, suc, ◌||◌, Bool, true, false, cond, List, [], ◌∷◌, ◌++◌, length, map, Option, Some, None, refl, sym, ap, ◌∙◌, subst}
 use Rattle.std.specs.Option.{is_none}
-use Rattle.std.specs.List.{position}
-use Rattle.std.specs.Str.{bytes_eq}
 use Rattle.std.proofs.lemmas.Bool.{false≢true}
 use Rattle.std.proofs.lemmas.List.{append_assoc, append-nil}
-use Rattle.std.proofs.lemmas.Slice.Eq.{bytes_eq-Decides}
-use Rattle.ct_token.specs.declared.token.Symbol.{Symbol}
 use Rattle.ct_token.specs.declared.token.Symbol.TheVariants as symbol
 use Rattle.ct_token.specs.declared.token.Token.{Token}
-use Rattle.ct_algebra.specs.Actions.{Action, Shift, Derive}
-use Rattle.ct_mono.specs.Limits.{largest_norm, largest_degree}
 use Rattle.ct_ore.specs.Naming.{Naming}
 use Rattle.ct_problem.specs.declared.expr.Expr.{Expr}
 use Rattle.ct_problem.specs.declared.expr.Expr.TheVariants as e
 use Rattle.ct_problem.specs.declared.expr.Summand.{Summand}
 use Rattle.ct_problem.specs.Input.{Input, Outcome, Parser, ◌>>=◌, ◌>>◌, ◌<$>◌, and_then, pure, refuse, peek, skip, next, past, eat, expect, sees, sees_word, place_of_name, is_wanted, spelling}
 use Rattle.ct_problem.specs.Input as input
-use Rattle.ct_problem.specs.Number as digits
-use Rattle.ct_problem.specs.Expressions.{name_by, name, acting_by, acting, symbol_by, letter, word_by, word, whole, product_of, summand, joint, is_minus, joins, atom_by, atom, factor, factors_from, term, summands_from, summands, sum, nested, expression}
-use Rattle.ct_problem.specs.Lexemes.{Lexeme, Word, Sign, Texts, nothing, one, optional, number, ◌▸◌, each}
-use Rattle.ct_problem.specs.Grammar.{Term, IsAtom, IsFactor, IsTerm, IsSum, IsNested, IsMoreFactor, IsMoreTerm, IsExpression, IsActing}
-use Rattle.ct_problem.proofs.LexemeSteps.{shown, shows_word, after_first, sees_word-shown, shown-next, shown-symbol}
-use Rattle.ct_problem.proofs.Spelling.{joined, joined_to_left, joined_to_right, joined_nothing, nothing_joined, to_nothing, on_second, Spelled, Spells, Continues, Continues-pure, Continues-last, Continues-bind, Spells-pure, Spells-refuse, Spells-bind, Spells-eat, Spells-expect, Spells-number, moved, after_taken, Spelled-then}
-
--- a word that is none of this text
-other_word : (w : List ℕ) (i : Input) → input.symbol i ≡ Some symbol.Word → sees_word w i ≡ false → spelling i ≢ w
-other_word w i here e same =
-    let shows : shows_word w (shown i) ≡ bytes_eq (spelling i) w = ap (shows_word w) (shown-symbol i symbol.Word here) in
-    false≢true (sym e ∙ sees_word-shown w i ∙ shows ∙ (bytes_eq-Decides (spelling i) w).1 same)
-
-the_word : (w : List ℕ) (i : Input) → input.symbol i ≡ Some symbol.Word → sees_word w i ≡ true → spelling i ≡ w
-the_word w i here e =
-    let shows : shows_word w (shown i) ≡ bytes_eq (spelling i) w = ap (shows_word w) (shown-symbol i symbol.Word here) in
-    (bytes_eq-Decides (spelling i) w).0 (sym shows ∙ sym (sees_word-shown w i) ∙ e)
+use Rattle.ct_problem.specs.Expressions.{summand, joint, is_minus, joins, term, summands_from, summands, sum, nested, expression}
+use Rattle.ct_problem.specs.Lexemes.{Lexeme, Sign, Texts, nothing, one, optional, ◌▸◌, each}
+use Rattle.ct_problem.specs.Grammar.{Term, IsTerm, IsSum, IsNested, IsMoreTerm, IsExpression}
+use Rattle.ct_problem.proofs.LexemeSteps.{shown-symbol}
+use Rattle.ct_problem.proofs.JoinedTexts.{joined, nothing_joined, to_nothing}
+use Rattle.ct_problem.proofs.Spelling.{Spelled, Spells, Continues, Continues-pure, Continues-last, Continues-bind, Spells-pure, Spells-bind, Spells-eat, Spells-expect, moved, after_taken, Spelled-then}
+use Rattle.ct_problem.proofs.SpelledTerms.{Spells-term}
 
 module _ (names : List Naming) (operators : Bool) where
-  -- a declared name of an action
-  record Acts (action : Action) (x : Expr) (ls : List Lexeme) : Type 0 where
-    letters : List ℕ
-    at : ℕ
-    acting : IsActing names action letters at
-    value : x ≡ e.Symbol at
-    spelled : one (Word letters) ls
-
-  Spells-acting : (action : Action) → Spells names (acting action) (Acts action)
-  unfolding acting
-  Spells-acting action i j x here h = by (input.symbol i) refl (place_of_name (Some action) i) refl h
-    where
-      by : (s : Option Symbol) → input.symbol i ≡ s → (o : Option ℕ) → place_of_name (Some action) i ≡ o → acting_by s o i ≡ Some (x, j) → Spelled names (Acts action x) i j
-      by (Some symbol.Word) word (Some at) found h =
-          moved names (Acts action) i (e.Symbol at) x (next i) j h (record {
-            used = Word (spelling i) ∷ [];
-            parts = shown-symbol i symbol.Word word ∙ ap (λ ls. Word (spelling i) ∷ ls) (sym (shown-next i));
-            spells = record { letters = spelling i; at = at; acting = subst (λ (ns : List Naming). position (is_wanted (Some action) (spelling i)) ns ≡ Some at) here found; value = refl; spelled = refl };
-            declared = here;
-          })
-      by (Some symbol.Word) word None found h = cc
-      by (Some symbol.Number) word o found h = cc
-      by (Some (symbol.Sign s)) word o found h = cc
-      by (Some symbol.Dots) word o found h = cc
-      by (Some symbol.LineEnd) word o found h = cc
-      by None word o found h = cc
-
-  -- the letter of a symbol before the name in brackets
-  Symbolic : Action → List ℕ → Expr → Texts
-  Symbolic action w x = one (Word w) ▸ one (Sign 91) ▸ Acts action x ▸ one (Sign 93)
-
-  Continues-symbol : (action : Action) (w : List ℕ) → Continues names (one (Word w)) (expect 91 >> (acting action >>= (λ found. expect 93 >> pure found))) (Symbolic action w)
-  unfolding Symbolic
-  Continues-symbol action w =
-      Continues-bind names (λ (_ : Unit {0}). one (Sign 91)) (Symbolic action w) (expect 91) _ (Spells-expect names 91) (λ _.
-      Continues-bind names (Acts action) (Symbolic action w) (acting action) _ (Spells-acting action) (λ x.
-      Continues-bind names (λ (_ : Unit {0}). one (Sign 93)) (Symbolic action w) (expect 93) _ (Spells-expect names 93) (λ _.
-      Continues-pure names (Symbolic action w) x (λ ls h. h))))
-
   module _ (inner : Parser Expr) (InParentheses : Expr → Texts)
       (opens : (i j : Input) (x : Expr) → i.names ≡ names → input.symbol i ≡ Some (symbol.Sign 40) → inner i ≡ Some (x, j) → Spelled names (InParentheses x) i j) where
     -- the sets of the rules
-    Atom : Expr → Texts
-    Atom = IsAtom names operators InParentheses
-
-    Factor : Expr → Texts
-    Factor = IsFactor names operators InParentheses
-
-    Factors : List Expr → Texts
-    Factors = each (IsMoreFactor names operators InParentheses)
-
-    ATerm : Expr → Texts
+    abbrev ATerm : Expr → Texts
     ATerm = IsTerm names operators InParentheses
 
-    Terms : List Term → Texts
+    abbrev Terms : List Term → Texts
     Terms = each (IsMoreTerm names operators InParentheses)
 
-    ASum : Expr → Texts
+    abbrev ASum : Expr → Texts
     ASum = IsSum names operators InParentheses
-
-    name_is : (i j : Input) (x : Expr) → i.names ≡ names → input.symbol i ≡ Some symbol.Word → spelling i ≢ codes "S" → spelling i ≢ codes "D" → name i ≡ Some (x, j) → Spelled names (Atom x) i j
-    unfolding name Atom
-    name_is i j x here is_word no_shift no_derivation h = by (place_of_name None i) refl h
-      where
-        by : (o : Option ℕ) → place_of_name None i ≡ o → name_by o i ≡ Some (x, j) → Spelled names (Atom x) i j
-        by None found h = cc
-        by (Some at) found h =
-            moved names Atom i (e.Name at) x (next i) j h (record {
-              used = Word (spelling i) ∷ [];
-              parts = shown-symbol i symbol.Word is_word ∙ ap (λ ls. Word (spelling i) ∷ ls) (sym (shown-next i));
-              spells = IsAtom.variable (spelling i) at (record {
-                no_shift = no_shift;
-                no_derivation = no_derivation;
-                first = subst (λ (ns : List Naming). position (is_wanted None (spelling i)) ns ≡ Some at) here found;
-              }) refl refl;
-              declared = here;
-            })
-
-    symbol_is : (action : Action) (w : List ℕ) (i j : Input) (x : Expr) → i.names ≡ names → input.symbol i ≡ Some symbol.Word → spelling i ≡ w → symbol_by action i ≡ Some (x, j) → Spelled names (Symbolic action w x) i j
-    unfolding symbol_by Symbolic
-    symbol_is action w i j x here is_word same h =
-        let head = subst (λ (letters : List ℕ). shown i ≡ Word letters ∷ after_first (shown i)) same (shown-symbol i symbol.Word is_word) in
-        after_taken names (Word w) (Symbolic action w x) i j head
-        (Continues-symbol action w (next i) j x (Word w ∷ []) refl here h)
-
-    shift_atom : IsTrue operators → (x : Expr) (ls : List Lexeme) → Symbolic Shift (codes "S") x ls → Atom x ls
-    unfolding Symbolic Atom
-    shift_atom allowed x ls h =
-        let acts = h.first.second in
-        IsAtom.shift acts.letters acts.at allowed acts.acting acts.value (record {
-          front = h.front;
-          back = h.back;
-          parts = h.parts;
-          second = h.second;
-          first = record { front = h.first.front; back = h.first.back; parts = h.first.parts; first = h.first.first; second = acts.spelled };
-        })
-
-    derivation_atom : IsTrue operators → (x : Expr) (ls : List Lexeme) → Symbolic Derive (codes "D") x ls → Atom x ls
-    unfolding Symbolic Atom
-    derivation_atom allowed x ls h =
-        let acts = h.first.second in
-        IsAtom.derivation acts.letters acts.at allowed acts.acting acts.value (record {
-          front = h.front;
-          back = h.back;
-          parts = h.parts;
-          second = h.second;
-          first = record { front = h.first.front; back = h.first.back; parts = h.first.parts; first = h.first.first; second = acts.spelled };
-        })
-
-    atom_as : (L : Expr → Texts) (i j : Input) (x : Expr) → ((ls : List Lexeme) → L x ls → Atom x ls) → Spelled names (L x) i j → Spelled names (Atom x) i j
-    atom_as L i j x h s = record { used = s.used; parts = s.parts; spells = h s.used s.spells; declared = s.declared }
-
-    word_is : (i j : Input) (x : Expr) → i.names ≡ names → input.symbol i ≡ Some symbol.Word → word operators i ≡ Some (x, j) → Spelled names (Atom x) i j
-    unfolding word letter
-    word_is i j x here is_word h = by operators refl (sees_word (codes "S") i) refl (sees_word (codes "D") i) refl h
-      where
-        by : (o : Bool) → operators ≡ o → (s : Bool) → sees_word (codes "S") i ≡ s → (d : Bool) → sees_word (codes "D") i ≡ d
-            → word_by o (cond s (Some Shift) (cond d (Some Derive) None)) i ≡ Some (x, j) → Spelled names (Atom x) i j
-        by true allowed true is_shift d is_derivation h =
-            atom_as (Symbolic Shift (codes "S")) i j x (shift_atom allowed x) (symbol_is Shift (codes "S") i j x here is_word (the_word (codes "S") i is_word is_shift) h)
-        by false barred true is_shift d is_derivation h = cc
-        by true allowed false is_shift true is_derivation h =
-            atom_as (Symbolic Derive (codes "D")) i j x (derivation_atom allowed x) (symbol_is Derive (codes "D") i j x here is_word (the_word (codes "D") i is_word is_derivation) h)
-        by false barred false is_shift true is_derivation h = cc
-        by o same false is_shift false is_derivation h =
-            name_is i j x here is_word (other_word (codes "S") i is_word is_shift) (other_word (codes "D") i is_word is_derivation) h
-
-    Spells-whole : Spells names whole Atom
-    unfolding whole Atom
-    Spells-whole =
-        Spells-bind names (number largest_norm) Atom (digits.number largest_norm) (λ n. pure (e.Whole (pos n))) (Spells-number names largest_norm (omega arith))
-        (λ n. Continues-pure names Atom (e.Whole (pos n)) (λ ls h. IsAtom.whole n refl h))
-
-    atom_is : (i j : Input) (x : Expr) → i.names ≡ names → (o : Option Symbol) → input.symbol i ≡ o → atom_by operators inner o i ≡ Some (x, j) → Spelled names (Atom x) i j
-    unfolding Atom
-    atom_is i j x here (Some symbol.Number) same h = Spells-whole i j x here h
-    atom_is i j x here (Some symbol.Word) same h = word_is i j x here same h
-    atom_is i j x here (Some (symbol.Sign s)) same h = by (s == 40) refl h
-      where
-        by : (b : Bool) → s == 40 ≡ b → cond b inner refuse i ≡ Some (x, j) → Spelled names (Atom x) i j
-        by true is_open h =
-            let open_sign : s ≡ 40 = first_of (search (rules, tests), grind (arith, tests)) in
-            atom_as InParentheses i j x (λ ls h. IsAtom.nested h) (opens i j x here (same ∙ ap (λ (n : ℕ). Some (symbol.Sign n)) open_sign) h)
-        by false other h = cc
-    atom_is i j x here (Some symbol.Dots) same h = cc
-    atom_is i j x here (Some symbol.LineEnd) same h = cc
-    atom_is i j x here None same h = cc
-
-    Spells-atom : Spells names (atom operators inner) Atom
-    unfolding atom
-    Spells-atom i j x here h = atom_is i j x here (input.symbol i) refl h
-
-    -- ---- factors and terms
-
-    Spells-factor : Spells names (factor operators inner) Factor
-    unfolding factor Factor Atom
-    Spells-factor =
-        Spells-bind names Atom Factor (atom operators inner) _ Spells-atom (λ base.
-        Continues-bind names (optional (Sign 94)) Factor (eat 94) _ (Spells-eat names 94) (λ is_power. by base is_power))
-      where
-        by : (base : Expr) (is_power : Bool) → Continues names (Atom base ▸ optional (Sign 94) is_power) (cond is_power (digits.number largest_degree >>= (λ n. pure (e.Power base n))) (pure base)) Factor
-        by base true =
-            Continues-bind names (number largest_degree) Factor (digits.number largest_degree) (λ n. pure (e.Power base n)) (Spells-number names largest_degree (omega arith))
-            (λ n. Continues-pure names Factor (e.Power base n) (λ ls h. IsFactor.power base n refl h))
-        by base false = Continues-pure names Factor base (λ ls h. IsFactor.plain (joined_nothing h))
-
-    -- a product with the factors that were found before
-    record Product (found : List Expr) (x : Expr) (ls : List Lexeme) : Type 0 where
-      first : Expr
-      more : List Expr
-      value : x ≡ product_of (found ++ first ∷ more)
-      spelled : (Factor first ▸ Factors more) ls
-
-    Spells-factors : (n : ℕ) (found : List Expr) → Spells names (factors_from operators inner n found) (Product found)
-    unfolding factors_from Factors Factor
-    Spells-factors zero found = Spells-refuse names (Product found)
-    Spells-factors (suc n) found =
-        Spells-bind names Factor (Product found) (factor operators inner) _ Spells-factor (λ x.
-        Continues-bind names (optional (Sign 42)) (Product found) (eat 42) _ (Spells-eat names 42) (λ more. by x (Spells-factors n (found ++ x ∷ [])) more))
-      where
-        by : (x : Expr) → Spells names (factors_from operators inner n (found ++ x ∷ [])) (Product (found ++ x ∷ [])) → (more : Bool)
-            → Continues names (Factor x ▸ optional (Sign 42) more) (cond more (factors_from operators inner n (found ++ x ∷ [])) (pure (product_of (found ++ x ∷ [])))) (Product found)
-        by x others true =
-            Continues-last names (Product found) (Product (found ++ x ∷ [])) (factors_from operators inner n (found ++ x ∷ [])) others (λ y ls h.
-            let rest = h.second in
-            record {
-              first = x;
-              more = rest.first ∷ rest.more;
-              value = rest.value ∙ ap product_of (append_assoc found (x ∷ []) (rest.first ∷ rest.more));
-              spelled = on_second (λ xs r. joined_to_left r) (joined_to_right (record { front = h.front; back = h.back; parts = h.parts; first = h.first; second = rest.spelled }));
-            })
-        by x others false = Continues-pure names (Product found) (product_of (found ++ x ∷ [])) (λ ls h. record { first = x; more = []; value = refl; spelled = h })
-
-    Spells-term : Spells names (term operators inner) ATerm
-    unfolding term ATerm Factors Factor
-    Spells-term i j x here h =
-        let s = Spells-factors (length i.left) [] i j x here h in
-        let p = s.spells in
-        record { used = s.used; parts = s.parts; spells = record { first = p.first; more = p.more; value = p.value; spelled = p.spelled }; declared = s.declared }
-
-    -- ---- sums
 
     Joint : Option Bool → Texts
     Joint None = nothing
@@ -271,9 +65,9 @@ module _ (names : List Naming) (operators : Bool) where
 
     after_joint : (n : ℕ) (found : List Summand) (negative : Bool) → ((x : Expr) → Spells names (summands_from operators inner n (found ++ summand negative x ∷ [])) (More (found ++ summand negative x ∷ [])))
         → Continues names (Joint (Some negative)) (term operators inner >>= (λ x. summands_from operators inner n (found ++ summand negative x ∷ []))) (OneMore found)
-    unfolding Joint Terms ATerm
+    unfolding Joint
     after_joint n found negative others =
-        Continues-bind names ATerm (OneMore found) (term operators inner) _ Spells-term (λ x.
+        Continues-bind names ATerm (OneMore found) (term operators inner) _ (Spells-term names operators inner InParentheses opens) (λ x.
         Continues-last names (OneMore found) (More (found ++ summand negative x ∷ [])) (summands_from operators inner n (found ++ summand negative x ∷ [])) (others x) (λ xs ls h. record {
           next = (negative, x);
           more = h.second.more;
@@ -288,7 +82,7 @@ module _ (names : List Naming) (operators : Bool) where
     continued D p L M weaker c i j x before d here h = let s = c i j x before d here h in record { used = s.used; parts = s.parts; spells = weaker x (before ++ s.used) s.spells; declared = s.declared }
 
     Spells-summands_from : (n : ℕ) (found : List Summand) → Spells names (summands_from operators inner n found) (More found)
-    unfolding summands_from Joint Terms
+    unfolding summands_from Joint
     Spells-summands_from zero found = Spells-pure names (More found) found (record { more = []; value = sym (append-nil found); spelled = refl })
     Spells-summands_from (suc n) found = Spells-bind names Joint (More found) joint _ Spells-joint (by (λ negative x. Spells-summands_from n (found ++ summand negative x ∷ [])))
       where
@@ -348,7 +142,7 @@ module _ (names : List Naming) (operators : Bool) where
     rest_of_sum negative first k = cond (negative || joins k) (e.Sum <$> summands operators inner first negative) (pure first) k
 
     after_minus : (first : Expr) → Continues names (one (Sign 45) ▸ ATerm first) (rest_of_sum true first) ASum
-    unfolding ASum ATerm Terms rest_of_sum
+    unfolding rest_of_sum
     after_minus first =
         Continues-bind names (More (summand true first ∷ [])) ASum (summands operators inner first true) _ (Spells-summands first true) (λ xs.
         Continues-pure names ASum (e.Sum xs) (λ ls h. record {
@@ -360,7 +154,7 @@ module _ (names : List Naming) (operators : Bool) where
         }))
 
     after_no_minus : (first : Expr) → Continues names (nothing ▸ ATerm first) (rest_of_sum false first) ASum
-    unfolding ASum ATerm Terms rest_of_sum
+    unfolding rest_of_sum
     after_no_minus first k j x before d here h = by (joins k) refl h
       where
         many : joins k ≡ true → (o : Outcome (List Summand)) → summands operators inner first false k ≡ o → and_then o (λ xs. pure (e.Sum xs)) ≡ Some (x, j) → Spelled names (λ used. ASum x (before ++ used)) k j
@@ -392,7 +186,7 @@ module _ (names : List Naming) (operators : Bool) where
     unfolding sum rest_of_sum
     Spells-sum =
         Spells-bind names (optional (Sign 45)) ASum (eat 45) _ (Spells-eat names 45) (λ negative.
-        Continues-bind names ATerm ASum (term operators inner) (rest_of_sum negative) Spells-term (λ first. after_first_term negative first))
+        Continues-bind names ATerm ASum (term operators inner) (rest_of_sum negative) (Spells-term names operators inner InParentheses opens) (λ first. after_first_term negative first))
 
   -- what is read in parentheses
   Within : ℕ → Expr → Texts
@@ -406,12 +200,11 @@ module _ (names : List Naming) (operators : Bool) where
       Continues-pure names (Within depth) inner (λ ls h. h)))
 
   opens_nested : (depth : ℕ) (i j : Input) (x : Expr) → i.names ≡ names → input.symbol i ≡ Some (symbol.Sign 40) → nested operators depth i ≡ Some (x, j) → Spelled names (IsNested names operators depth x) i j
-  unfolding nested IsNested Within ASum
+  unfolding nested IsNested Within
   opens_nested zero i j x here is_open h = cc
   opens_nested (suc depth) i j x here is_open h =
       after_taken names (Sign 40) (Within depth x) i j (shown-symbol i (symbol.Sign 40) is_open)
       (inside depth (Spells-sum (nested operators depth) (IsNested names operators depth) (opens_nested depth)) (next i) j x (Sign 40 ∷ []) refl here h)
 
   pub Spells-expression : Spells names (expression operators) (IsExpression names operators)
-  unfolding ASum
   Spells-expression = Spells-sum (nested operators 64) (IsNested names operators 64) (opens_nested 64)

@@ -22,7 +22,8 @@ use Rattle.ct_problem.specs.Lexemes.{Lexeme, Texts, ◌▸◌, each, lexemes}
 use Rattle.ct_problem.specs.GrammarLines as grammar
 use Rattle.ct_problem.specs.GrammarLines.{StandsFor, each_with, cofactors, keyed, part, quotient, header, last_line, shape, found_line}
 use Rattle.ct_problem.proofs.LexemeSteps.{shown}
-use Rattle.ct_problem.proofs.Spelling.{joined, joined_to_left, replaced, on_first, Spelled, Spells, Continues, Continues-pure, Continues-bind, Spells-bind, Spells-as}
+use Rattle.ct_problem.proofs.JoinedTexts.{joined, joined_to_left, replaced, on_first}
+use Rattle.ct_problem.proofs.Spelling.{Spelled, Spells, Continues, Continues-pure, Continues-bind, Spells-bind, Spells-as}
 use Rattle.ct_problem.proofs.SpelledLines.{Spells-header, Spells-keyed, Spells-support, Shape, Generators, Spells-generators, Place, Spells-found_line, MoreWith, Spells-quotients, Spells-factors_of, MoreCofactors, Spells-cofactors, Spells-finish}
 use Rattle.ct_problem.proofs.SpelledNames.{Names, Spells-names}
 

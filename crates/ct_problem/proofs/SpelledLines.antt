@@ -15,7 +15,8 @@ use Rattle.ct_problem.specs.ReportLines as rules
 use Rattle.ct_problem.specs.Lexemes.{Lexeme, Word, Number, Sign, Dots, LineEnd, Texts, nothing, one, optional, number, ◌▸◌, each}
 use Rattle.ct_problem.specs.Grammar.{IsExpression}
 use Rattle.ct_problem.specs.GrammarLines.{header, last_line, value, keyed, part, quotient, cofactor, cofactors, each_with, single, shape, numbered, found_line}
-use Rattle.ct_problem.proofs.Spelling.{joined_to_right, joined_nothing, replaced, Spelled, Spells, Continues, Continues-pure, Continues-last, Continues-bind, Spells-pure, Spells-bind, Spells-eat_word, Spells-expect, Spells-expect_word, Spells-line_end, Spells-dots, Spells-number, Spells-exactly}
+use Rattle.ct_problem.proofs.JoinedTexts.{joined_to_right, joined_nothing, replaced}
+use Rattle.ct_problem.proofs.Spelling.{Spelled, Spells, Continues, Continues-pure, Continues-last, Continues-bind, Spells-pure, Spells-bind, Spells-eat_word, Spells-expect, Spells-expect_word, Spells-line_end, Spells-dots, Spells-number, Spells-exactly}
 use Rattle.ct_problem.proofs.SpelledExpressions.{Spells-expression}
 
 module _ (names : List Naming) where

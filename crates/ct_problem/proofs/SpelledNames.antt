@@ -17,7 +17,8 @@ use Rattle.ct_problem.specs.Lexemes.{Lexeme, Word, LineEnd, Texts, one, optional
 use Rattle.ct_problem.specs.GrammarLines as grammar
 use Rattle.ct_problem.proofs.Values.{both}
 use Rattle.ct_problem.proofs.LexemeSteps.{shown, sees_word-shown, shown-symbol}
-use Rattle.ct_problem.proofs.Spelling.{joined, nothing_joined, replaced, Spelled, Spells, Continues, Spelled-then, after_taken, shows_word-gives, Continues-pure, Continues-refuse, Continues-bind, Spells-pure, Spells-bind, Spells-eat_word, Spells-expect_word, Spells-line_end}
+use Rattle.ct_problem.proofs.JoinedTexts.{joined, nothing_joined, replaced}
+use Rattle.ct_problem.proofs.Spelling.{Spelled, Spells, Continues, Spelled-then, after_taken, shows_word-gives, Continues-pure, Continues-refuse, Continues-bind, Spells-pure, Spells-bind, Spells-eat_word, Spells-expect_word, Spells-line_end}
 use Rattle.ct_problem.proofs.SpelledLines.{Spells-header}
 
 -- the word that begins a name line

@@ -13,51 +13,9 @@ use Rattle.ct_ore.specs.Naming.{Naming}
 use Rattle.ct_problem.specs.Input.{Input, Outcome, Parser, ◌>>=◌, ◌>>◌, and_then, pure, refuse, skip, next, past, sees, eat, expect, sees_word, eat_word, expect_word, required, line_end, line_end_by, dots, dots_by, spelled, spelling}
 use Rattle.ct_problem.specs.Input as input
 use Rattle.ct_problem.specs.Number as digits
-use Rattle.ct_problem.specs.Lexemes.{Lexeme, Word, Number, Sign, Dots, LineEnd, Texts, nothing, one, optional, number, ◌▸◌, decimal}
+use Rattle.ct_problem.specs.Lexemes.{Lexeme, Word, Number, Sign, Dots, LineEnd, Texts, one, optional, number, ◌▸◌, decimal}
 use Rattle.ct_problem.proofs.LexemeSteps.{shown, shows_sign, shows_word, after_first, sees-shown, sees_word-shown, shown-next, shown-symbol, value_of-decimal}
-
--- ---- sets of lists
-
-pub joined : {a b : Texts} (xs ys : List Lexeme) → a xs → b ys → (a ▸ b) (xs ++ ys)
-joined xs ys first second = record { front = xs; back = ys; parts = refl; first = first; second = second }
-
-pub joined_to_left : {a b c : Texts} {ls : List Lexeme} → (a ▸ (b ▸ c)) ls → (a ▸ b ▸ c) ls
-joined_to_left h = record {
-  front = h.front ++ h.second.front;
-  back = h.second.back;
-  parts = h.parts ∙ ap (λ ys. h.front ++ ys) h.second.parts ∙ sym (append_assoc h.front h.second.front h.second.back);
-  first = record { front = h.front; back = h.second.front; parts = refl; first = h.first; second = h.second.first };
-  second = h.second.second;
-}
-
-pub joined_to_right : {a b c : Texts} {ls : List Lexeme} → (a ▸ b ▸ c) ls → (a ▸ (b ▸ c)) ls
-joined_to_right h = record {
-  front = h.first.front;
-  back = h.first.back ++ h.back;
-  parts = h.parts ∙ ap (λ xs. xs ++ h.back) h.first.parts ∙ append_assoc h.first.front h.first.back h.back;
-  first = h.first.first;
-  second = record { front = h.first.back; back = h.back; parts = refl; first = h.first.second; second = h.second };
-}
-
-pub joined_nothing : {a : Texts} {ls : List Lexeme} → (a ▸ nothing) ls → a ls
-joined_nothing {a} h = subst a (sym (h.parts ∙ ap (λ ys. h.front ++ ys) h.second ∙ append-nil h.front)) h.first
-
-pub nothing_joined : {a : Texts} {ls : List Lexeme} → (nothing ▸ a) ls → a ls
-nothing_joined {a} h = subst a (sym (h.parts ∙ ap (λ xs. xs ++ h.back) h.first)) h.second
-
-pub to_nothing : {a : Texts} {ls : List Lexeme} → a ls → (a ▸ nothing) ls
-to_nothing {ls} h = record { front = ls; back = []; parts = sym (append-nil ls); first = h; second = refl }
-
-pub on_first : {a b c : Texts} {ls : List Lexeme} → ((xs : List Lexeme) → a xs → b xs) → (a ▸ c) ls → (b ▸ c) ls
-on_first f h = record { front = h.front; back = h.back; parts = h.parts; first = f h.front h.first; second = h.second }
-
-pub on_second : {a b c : Texts} {ls : List Lexeme} → ((xs : List Lexeme) → b xs → c xs) → (a ▸ b) ls → (a ▸ c) ls
-on_second f h = record { front = h.front; back = h.back; parts = h.parts; first = h.first; second = f h.back h.second }
-
-pub replaced : {a b c : Texts} {ls : List Lexeme} (h : (a ▸ b) ls) → c h.back → (a ▸ c) ls
-replaced h second = record { front = h.front; back = h.back; parts = h.parts; first = h.first; second = second }
-
--- ---- rules
+use Rattle.ct_problem.proofs.JoinedTexts.{joined}
 
 pub record Spelled (names : List Naming) (L : Texts) (i j : Input) : Type 0 where
   pub used : List Lexeme
@@ -107,14 +65,6 @@ module _ (names : List Naming) where
 
     pub Spells-refuse : Spells names refuse L
     Spells-refuse i j y here e = cc
-
-    pub Continues-cond : {D : Texts} (b : Bool) (p q : Parser A) → (b ≡ true → Continues names D p L) → (b ≡ false → Continues names D q L) → Continues names D (cond b p q) L
-    Continues-cond true p q one other = one refl
-    Continues-cond false p q one other = other refl
-
-    pub Spells-cond : (b : Bool) (p q : Parser A) → (b ≡ true → Spells names p L) → (b ≡ false → Spells names q L) → Spells names (cond b p q) L
-    Spells-cond true p q one other = one refl
-    Spells-cond false p q one other = other refl
 
     -- a rule that goes on after what was taken before
     pub Continues-last : {D : Texts} (M : A → Texts) (p : Parser A) → Spells names p M → ((x : A) (ls : List Lexeme) → (D ▸ M x) ls → L x ls) → Continues names D p L

@@ -1,27 +1,23 @@
 -- Lexemes that stand for an atom are read as that atom. Main lemma `Takes-atom`.
-use Rattle.std.proofs.Common.{◌≡◌, ◌≢◌, ℕ, zero, suc, ◌+◌, ◌<◌, ◌≤◌, ◌==◌, ◌||◌, Bool, true, false, cond, List, [], ◌∷◌, ◌++◌, length, map, Option, Some, None, IsTrue, pos, refl, sym, ap, ◌∙◌, subst, arith, rules, tests, codes, length-append}
-use Rattle.std.specs.Option.{is_none}
+use Rattle.std.proofs.Common.{◌≡◌, ℕ, Bool, true, false, cond, List, ◌∷◌, ◌++◌, Option, Some, None, IsTrue, pos, refl, sym, ap, ◌∙◌, subst, arith, codes}
 use Rattle.std.specs.List.{position}
 use Rattle.std.specs.Str.{bytes_eq}
-use Rattle.std.proofs.lemmas.List.{append_assoc, append-nil}
 use Rattle.ct_token.specs.declared.token.Symbol.{Symbol}
 use Rattle.ct_token.specs.declared.token.Symbol.TheVariants as symbol
-use Rattle.ct_token.specs.declared.token.Token.{Token}
 use Rattle.ct_algebra.specs.Actions.{Action, Shift, Derive}
-use Rattle.ct_mono.specs.Limits.{largest_norm, largest_degree}
+use Rattle.ct_mono.specs.Limits.{largest_norm}
 use Rattle.ct_ore.specs.Naming.{Naming}
 use Rattle.ct_problem.specs.declared.expr.Expr.{Expr}
 use Rattle.ct_problem.specs.declared.expr.Expr.TheVariants as expr
-use Rattle.ct_problem.specs.declared.expr.Summand.{Summand}
 use Rattle.ct_problem.specs.Input.{Input, Outcome, Parser, ◌>>=◌, ◌>>◌, ◌<$>◌, and_then, pure, refuse, skip, next, past, eat, expect, sees, sees_word, place_of_name, is_wanted, spelling}
 use Rattle.ct_problem.specs.Input as input
 use Rattle.ct_problem.specs.Number as digits
-use Rattle.ct_problem.specs.Expressions.{name_by, name, acting_by, acting, symbol_by, letter, word_by, word, whole, product_of, summand, joint, is_minus, joins, atom_by, atom, factor, factors_from, term, summands_from, summands, sum, nested, expression}
-use Rattle.ct_problem.specs.Lexemes.{Lexeme, Word, Number, Sign, Texts, nothing, one, optional, number, ◌▸◌, each, lexemes}
-use Rattle.ct_problem.specs.Grammar.{Term, sum_of, IsVariable, IsActing, IsAtom, IsFactor, IsTerm, IsSum, IsNested, IsMoreFactor, IsMoreTerm, IsExpression}
-use Rattle.ct_problem.proofs.LexemeSteps.{shown, shows_sign, shows_word, after_first, sees-shown, sees_word-shown, shown-next, shown-symbol}
-use Rattle.ct_problem.proofs.Spelling.{joined_to_right, on_second, to_nothing}
-use Rattle.ct_problem.proofs.Taking.{Taken, Takes, anywhere, Taken-bind, Takes-pure, Takes-as, Takes-value, Takes-to_right, Takes-bind, Takes-then, Takes-next, Takes-last, Takes-skip, Takes-eat, Takes-no_sign, Takes-expect, Takes-number, shows_a_word, shows_a_number, shows_a_sign, spelling-shown, next-shown, unequal_words}
+use Rattle.ct_problem.specs.Expressions.{name_by, name, acting_by, acting, symbol_by, letter, word_by, word, whole, atom_by, atom}
+use Rattle.ct_problem.specs.Lexemes.{Lexeme, Word, Sign, Texts, one, number, ◌▸◌}
+use Rattle.ct_problem.specs.Grammar.{IsVariable, IsActing, IsAtom}
+use Rattle.ct_problem.proofs.LexemeSteps.{shown, shows_word, sees_word-shown}
+use Rattle.ct_problem.proofs.JoinedTexts.{joined_to_right}
+use Rattle.ct_problem.proofs.Taking.{Taken, Takes, anywhere, Takes-to_right, Takes-then, Takes-next, Takes-last, Takes-skip, Takes-expect, Takes-number, shows_a_word, shows_a_number, shows_a_sign, spelling-shown, next-shown, unequal_words}
 
 module _ (names : List Naming) where
   -- ---- words
@@ -31,8 +27,8 @@ module _ (names : List Naming) where
   Takes-acting action letters at known i used rest here e u after =
       let head : shown i ≡ Word letters ∷ rest = e ∙ ap (λ ls. ls ++ rest) u in
       let place : place_of_name (Some action) i ≡ Some at =
-          subst (λ (v : List ℕ). position (is_wanted (Some action) v) i.names ≡ Some at) (sym (spelling-shown i rest letters head))
-          (subst (λ (ns : List Naming). position (is_wanted (Some action) letters) ns ≡ Some at) (sym here) known) in
+      subst (λ (v : List ℕ). position (is_wanted (Some action) v) i.names ≡ Some at) (sym (spelling-shown i rest letters head))
+      (subst (λ (ns : List Naming). position (is_wanted (Some action) letters) ns ≡ Some at) (sym here) known) in
       record {
         left = next i;
         reads = ap (λ (o : Option Symbol). acting_by o (place_of_name (Some action) i) i) (shows_a_word i rest letters head) ∙ ap (λ (o : Option ℕ). acting_by (Some symbol.Word) o i) place;
@@ -68,8 +64,8 @@ module _ (names : List Naming) where
         let no_shift = sees_by (codes "S") letters i rest head ∙ unequal_words letters (codes "S") known.no_shift in
         let no_derivation = sees_by (codes "D") letters i rest head ∙ unequal_words letters (codes "D") known.no_derivation in
         let place : place_of_name None i ≡ Some at =
-            subst (λ (v : List ℕ). position (is_wanted None v) i.names ≡ Some at) (sym (spelling-shown i rest letters head))
-            (subst (λ (ns : List Naming). position (is_wanted None letters) ns ≡ Some at) (sym here) known.first) in
+        subst (λ (v : List ℕ). position (is_wanted None v) i.names ≡ Some at) (sym (spelling-shown i rest letters head))
+        (subst (λ (ns : List Naming). position (is_wanted None letters) ns ≡ Some at) (sym here) known.first) in
         record {
           left = next i;
           reads = ap (λ (o : Option Action). word_by operators o i) (letter_by i false false no_shift no_derivation) ∙ ap (λ (o : Option ℕ). name_by o i) place;

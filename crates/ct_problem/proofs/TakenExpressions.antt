@@ -1,133 +1,31 @@
 -- Lexemes that stand for an expression are read as that expression. Main lemma `Takes-expression`, rule by rule.
-use Rattle.std.proofs.Common.{◌≡◌, ◌≢◌, ℕ, zero, suc, ◌+◌, ◌-◌, ◌<◌, ◌≤◌, ◌==◌, ◌||◌, Bool, true, false, cond, List, [], ◌∷◌, ◌++◌, length, map, Option, Some, None, IsTrue, pos, refl, sym, ap, ◌∙◌, subst, arith, rules, tests, codes, length-append}
+use Rattle.std.proofs.Common.{◌≡◌, ℕ, zero, suc, ◌≤◌, ◌||◌, Bool, true, false, cond, List, [], ◌∷◌, ◌++◌, length, map, Option, Some, None, refl, sym, ap, ◌∙◌, subst, arith}
 use Rattle.std.specs.Option.{is_none}
-use Rattle.std.specs.List.{position}
-use Rattle.std.specs.Str.{bytes_eq}
 use Rattle.std.proofs.lemmas.List.{append_assoc, append-nil}
-use Rattle.ct_token.specs.declared.token.Symbol.{Symbol}
-use Rattle.ct_token.specs.declared.token.Symbol.TheVariants as symbol
-use Rattle.ct_token.specs.declared.token.Token.{Token}
-use Rattle.ct_algebra.specs.Actions.{Action, Shift, Derive}
-use Rattle.ct_mono.specs.Limits.{largest_norm, largest_degree}
 use Rattle.ct_ore.specs.Naming.{Naming}
 use Rattle.ct_problem.specs.declared.expr.Expr.{Expr}
 use Rattle.ct_problem.specs.declared.expr.Expr.TheVariants as expr
 use Rattle.ct_problem.specs.declared.expr.Summand.{Summand}
-use Rattle.ct_problem.specs.Input.{Input, Outcome, Parser, ◌>>=◌, ◌>>◌, ◌<$>◌, and_then, pure, refuse, skip, next, past, eat, expect, sees, sees_word, place_of_name, is_wanted, spelling}
-use Rattle.ct_problem.specs.Input as input
-use Rattle.ct_problem.specs.Number as digits
-use Rattle.ct_problem.specs.Expressions.{name_by, name, acting_by, acting, symbol_by, letter, word_by, word, whole, product_of, summand, joint, is_minus, joins, atom_by, atom, factor, factors_from, term, summands_from, summands, sum, nested, expression}
-use Rattle.ct_problem.specs.Lexemes.{Lexeme, Word, Number, Sign, Texts, nothing, one, optional, number, ◌▸◌, each, lexemes}
-use Rattle.ct_problem.specs.Grammar.{Term, sum_of, IsVariable, IsActing, IsAtom, IsFactor, IsTerm, IsSum, IsNested, IsMoreFactor, IsMoreTerm, IsExpression}
-use Rattle.ct_problem.proofs.LexemeSteps.{shown, shows_sign, shows_word, after_first, sees-shown, sees_word-shown, shown-next, shown-symbol}
-use Rattle.ct_problem.proofs.Spelling.{joined_to_right, on_second, to_nothing}
-use Rattle.ct_problem.proofs.Taking.{Taken, Takes, anywhere, Taken-bind, Takes-pure, Takes-as, Takes-value, Takes-to_right, Takes-bind, Takes-then, Takes-next, Takes-last, Takes-skip, Takes-eat, Takes-no_sign, Takes-expect, Takes-number, shows_a_word, shows_a_number, shows_a_sign, spelling-shown, next-shown, unequal_words}
-use Rattle.ct_problem.proofs.Turns.{deeper}
-use Rattle.ct_problem.proofs.LexemeStarts.{Opens, Opens-joined, Opens-one, Opens-some, Opens-before, each-length, begun-length, begun-shows, length-shown, AfterFactor, AfterTerm, AfterSum, after_term}
-use Rattle.ct_problem.proofs.TakenAtoms.{Takes-atom}
+use Rattle.ct_problem.specs.Input.{Input, Parser, ◌>>=◌, ◌>>◌, ◌<$>◌, pure, skip, eat, expect, sees}
+use Rattle.ct_problem.specs.Expressions.{summand, joint, is_minus, joins, term, summands_from, summands, sum, nested, expression}
+use Rattle.ct_problem.specs.Lexemes.{Lexeme, Sign, Texts, nothing, one, optional, ◌▸◌, each}
+use Rattle.ct_problem.specs.Grammar.{Term, sum_of, IsTerm, IsSum, IsNested, IsMoreTerm, IsExpression}
+use Rattle.ct_problem.proofs.LexemeSteps.{shown, shows_sign, sees-shown}
+use Rattle.ct_problem.proofs.JoinedTexts.{joined_to_right}
+use Rattle.ct_problem.proofs.Taking.{Taken, Takes, anywhere, Taken-bind, Takes-pure, Takes-value, Takes-to_right, Takes-bind, Takes-then, Takes-next, Takes-last, Takes-skip, Takes-eat, Takes-no_sign, Takes-expect}
+use Rattle.ct_problem.proofs.LexemeStarts.{Opens-joined, Opens-before, each-length, begun-length, begun-shows, AfterTerm, AfterSum, after_term}
+use Rattle.ct_problem.proofs.TakenTerms.{term_opens, Takes-term, room}
 
 module _ (names : List Naming) where
   module _ (operators : Bool) (inner : Parser Expr) (InParentheses : Expr → Texts)
       (inner_takes : (x : Expr) → Takes names inner x (InParentheses x) anywhere)
       (inner_opens : (x : Expr) (ls : List Lexeme) → InParentheses x ls → (back : List Lexeme) × (ls ≡ Sign 40 ∷ back)) where
     -- the sets of the rules
-    abbrev Atom : Expr → Texts
-    Atom = IsAtom names operators InParentheses
-
-    abbrev Factor : Expr → Texts
-    Factor = IsFactor names operators InParentheses
-
-    abbrev MoreFactor : Expr → Texts
-    MoreFactor = IsMoreFactor names operators InParentheses
-
     abbrev ATerm : Expr → Texts
     ATerm = IsTerm names operators InParentheses
 
     abbrev MoreTerm : Term → Texts
     MoreTerm = IsMoreTerm names operators InParentheses
-
-    -- ---- how the rules begin
-
-    symbol_opens : (w letters : List ℕ) (ls : List Lexeme) → (one (Word w) ▸ one (Sign 91) ▸ one (Word letters) ▸ one (Sign 93)) ls → Opens ls
-    symbol_opens w letters ls h = Opens-joined h (Opens-joined h.first (Opens-joined h.first.first (Opens-one (Word w) h.first.first.front h.first.first.first (λ rest. refl))))
-
-    atom_opens : (x : Expr) (ls : List Lexeme) → Atom x ls → Opens ls
-    atom_opens x ls (IsAtom.whole n value u) = Opens-one (Number n) ls u.1 (λ rest. refl)
-    atom_opens x ls (IsAtom.variable letters at known value u) = Opens-one (Word letters) ls u (λ rest. refl)
-    atom_opens x ls (IsAtom.shift letters at allowed acts value u) = symbol_opens (codes "S") letters ls u
-    atom_opens x ls (IsAtom.derivation letters at allowed acts value u) = symbol_opens (codes "D") letters ls u
-    atom_opens x ls (IsAtom.nested u) = let first = inner_opens x ls u in record { head = Sign 40; back = first.0; parts = first.1; no_minus = λ rest. refl }
-
-    factor_opens : (x : Expr) (ls : List Lexeme) → Factor x ls → Opens ls
-    factor_opens x ls (IsFactor.plain u) = atom_opens x ls u
-    factor_opens x ls (IsFactor.power base n value u) = Opens-joined u (Opens-joined u.first (atom_opens base u.first.front u.first.first))
-
-    term_opens : (x : Expr) (ls : List Lexeme) → ATerm x ls → Opens ls
-    term_opens x ls t = Opens-joined t.spelled (factor_opens t.first t.spelled.front t.spelled.first)
-
-    -- ---- factors and terms
-
-    abbrev power_by : Expr → Bool → Parser Expr
-    power_by base is_power = cond is_power (digits.number largest_degree >>= (λ n. pure (expr.Power base n))) (pure base)
-
-    abbrev powered : Expr → Parser Expr
-    powered base = eat 94 >>= power_by base
-
-    Takes-factor : (x : Expr) → Takes names (factor operators inner) x (Factor x) AfterFactor
-    unfolding factor
-    Takes-factor x i used rest here e (IsFactor.plain u) after =
-        Takes-bind names x x (Atom x) nothing anywhere AfterFactor (atom operators inner) powered (Takes-atom names operators inner InParentheses inner_takes inner_opens x)
-        (Takes-last names false x nothing AfterFactor (eat 94) (power_by x) (Takes-no_sign names 94) (λ k. refl)) (λ back rest m after. tt) i used rest here e (to_nothing u) after
-    Takes-factor x i used rest here e (IsFactor.power base n value u) after =
-        subst (λ (y : Expr). Taken names (factor operators inner) i y rest) (sym value)
-        (Takes-to_right names (Atom base) (one (Sign 94)) (number largest_degree n) anywhere (factor operators inner) (expr.Power base n)
-        (Takes-then names base (expr.Power base n) (Atom base) (one (Sign 94) ▸ number largest_degree n) anywhere (atom operators inner) powered (Takes-atom names operators inner InParentheses inner_takes inner_opens base)
-        (Takes-then names true (expr.Power base n) (one (Sign 94)) (number largest_degree n) anywhere (eat 94) (power_by base) (Takes-eat names 94)
-        (Takes-last names n (expr.Power base n) (number largest_degree n) anywhere (digits.number largest_degree) (λ m. pure (expr.Power base m)) (Takes-number names largest_degree n (omega arith)) (λ k. refl))))
-        i used rest here e u tt)
-
-    abbrev factors_by : ℕ → List Expr → Expr → Bool → Parser Expr
-    factors_by n found x more = cond more (factors_from operators inner n (found ++ x ∷ [])) (pure (product_of (found ++ x ∷ [])))
-
-    Takes-factors : (more : List Expr) (first : Expr) (found : List Expr) (n : ℕ) → length more ≤ n → Takes names (factors_from operators inner (suc n) found) (product_of (found ++ first ∷ more)) (Factor first ▸ each MoreFactor more) AfterTerm
-    unfolding factors_from
-    Takes-factors [] first found n enough =
-        Takes-bind names first (product_of (found ++ first ∷ [])) (Factor first) nothing AfterFactor AfterTerm (factor operators inner) (λ x. eat 42 >>= factors_by n found x) (Takes-factor first)
-        (Takes-as names nothing nothing (λ rest. shows_sign 42 rest ≡ false) AfterTerm (eat 42 >>= factors_by n found first) (product_of (found ++ first ∷ [])) (λ ls m. m) (λ rest a. a.no_factor)
-        (Takes-last names false (product_of (found ++ first ∷ [])) nothing (λ rest. shows_sign 42 rest ≡ false) (eat 42) (factors_by n found first) (Takes-no_sign names 42) (λ k. refl)))
-        (λ back rest m after. subst (λ (ls : List Lexeme). AfterFactor (ls ++ rest)) (sym m) after.no_power)
-    Takes-factors (y ∷ more) first found zero enough = let no : ⊥ = omega (arith, enough) in absurd no
-    Takes-factors (y ∷ more) first found (suc n) enough =
-        Takes-as names (Factor first ▸ (one (Sign 42) ▸ (Factor y ▸ each MoreFactor more))) (Factor first ▸ each MoreFactor (y ∷ more)) AfterTerm AfterTerm (factors_from operators inner (suc (suc n)) found) (product_of (found ++ first ∷ y ∷ more))
-        (λ ls h. on_second (λ xs k. joined_to_right k) h) (λ rest a. a)
-        (Takes-value names (Factor first ▸ (one (Sign 42) ▸ (Factor y ▸ each MoreFactor more))) AfterTerm (factors_from operators inner (suc (suc n)) found) (product_of ((found ++ first ∷ []) ++ y ∷ more)) (product_of (found ++ first ∷ y ∷ more))
-        (ap product_of (append_assoc found (first ∷ []) (y ∷ more)))
-        (Takes-bind names first (product_of ((found ++ first ∷ []) ++ y ∷ more)) (Factor first) (one (Sign 42) ▸ (Factor y ▸ each MoreFactor more)) AfterFactor AfterTerm (factor operators inner) (λ x. eat 42 >>= factors_by (suc n) found x) (Takes-factor first)
-        (Takes-then names true (product_of ((found ++ first ∷ []) ++ y ∷ more)) (one (Sign 42)) (Factor y ▸ each MoreFactor more) AfterTerm (eat 42) (factors_by (suc n) found first) (Takes-eat names 42)
-        (Takes-factors more y (found ++ first ∷ []) n (omega (arith, enough))))
-        (λ back rest h after. begun-shows (Sign 42) back rest AfterFactor h (λ ls. refl))))
-
-    factors-length : (more : List Expr) (ls : List Lexeme) → each MoreFactor more ls → length more ≤ length ls
-    factors-length more ls h = each-length MoreFactor (λ x xs k. begun-length (Sign 42) xs k) more ls h
-
-    -- enough tokens are left
-    room : (i : Input) (used rest : List Lexeme) → shown i ≡ used ++ rest → length used ≤ length i.left
-    room i used rest e = let all = ap length e in omega (arith, all, length-append used rest, length-shown i)
-
-    Takes-term : (x : Expr) → Takes names (term operators inner) x (ATerm x) AfterTerm
-    unfolding term
-    Takes-term x i used rest here e t after =
-        let first = Opens-some t.spelled.front (factor_opens t.first t.spelled.front t.spelled.first) in
-        let more = factors-length t.more t.spelled.back t.spelled.second in
-        let parts = ap length t.spelled.parts in
-        let left = room i used rest e in
-        let enough : length t.more ≤ length i.left - 1 = omega (arith, first, more, parts, length-append t.spelled.front t.spelled.back, left) in
-        let some : 0 < length i.left = omega (arith, first, parts, length-append t.spelled.front t.spelled.back, left) in
-        let r = Takes-factors t.more t.first [] (length i.left - 1) enough i used rest here e t.spelled after in
-        subst (λ (y : Expr). Taken names (term operators inner) i y rest) (sym t.value)
-        (record { left = r.left; reads = deeper (λ n. factors_from operators inner n [] i) (length i.left) some ∙ r.reads; shows = r.shows; declared = r.declared })
-
-    -- ---- sums
 
     abbrev minus_by : Bool → Parser (Option Bool)
     minus_by minus = pure (cond minus (Some true) None)
@@ -178,14 +76,14 @@ module _ (names : List Naming) where
         Takes-value names (each MoreTerm (t ∷ more)) AfterSum (joint >>= sign_by n found) ((found ++ summand t.0 t.1 ∷ []) ++ made more) (found ++ made (t ∷ more)) (append_assoc found (summand t.0 t.1 ∷ []) (made more))
         (Takes-to_right names (one (Sign (cond t.0 45 43))) (ATerm t.1) (each MoreTerm more) AfterSum (joint >>= sign_by n found) ((found ++ summand t.0 t.1 ∷ []) ++ made more)
         (Takes-then names (Some t.0) ((found ++ summand t.0 t.1 ∷ []) ++ made more) (one (Sign (cond t.0 45 43))) (ATerm t.1 ▸ each MoreTerm more) AfterSum joint (sign_by n found) (Takes-joint t.0)
-        (Takes-bind names t.1 ((found ++ summand t.0 t.1 ∷ []) ++ made more) (ATerm t.1) (each MoreTerm more) AfterTerm AfterSum (term operators inner) (λ x. summands_from operators inner n (found ++ summand t.0 x ∷ [])) (Takes-term t.1)
+        (Takes-bind names t.1 ((found ++ summand t.0 t.1 ∷ []) ++ made more) (ATerm t.1) (each MoreTerm more) AfterTerm AfterSum (term operators inner) (λ x. summands_from operators inner n (found ++ summand t.0 x ∷ [])) (Takes-term names operators inner InParentheses inner_takes inner_opens t.1)
         (Takes-summands_from more (found ++ summand t.0 t.1 ∷ []) n (omega (arith, enough))) (terms_after more))))
 
     Takes-summands : (negative : Bool) (first : Expr) (more : List Term) → Takes names (summands operators inner first negative) (summand negative first ∷ made more) (each MoreTerm more) AfterSum
     unfolding summands
     Takes-summands negative first more i used rest here e u after =
         let count = each-length MoreTerm (λ t xs k. begun-length (Sign (cond t.0 45 43)) xs k) more used u in
-        let left = room i used rest e in
+        let left = room names operators inner InParentheses inner_takes inner_opens i used rest e in
         let r = Takes-summands_from more (summand negative first ∷ []) (length i.left) (omega (arith, count, left)) i used rest here e u after in
         record { left = r.left; reads = r.reads; shows = r.shows; declared = r.declared }
 
@@ -217,7 +115,7 @@ module _ (names : List Naming) where
 
     from_first : (negative : Bool) (first : Expr) (more : List Term) → Takes names (term operators inner >>= rest_by negative) (sum_of negative first more) (ATerm first ▸ each MoreTerm more) AfterSum
     from_first negative first more =
-        Takes-bind names first (sum_of negative first more) (ATerm first) (each MoreTerm more) AfterTerm AfterSum (term operators inner) (rest_by negative) (Takes-term first) (Takes-rest negative first more) (terms_after more)
+        Takes-bind names first (sum_of negative first more) (ATerm first) (each MoreTerm more) AfterTerm AfterSum (term operators inner) (rest_by negative) (Takes-term names operators inner InParentheses inner_takes inner_opens first) (Takes-rest negative first more) (terms_after more)
 
     abbrev signed_by : Bool → Parser Expr
     signed_by negative = term operators inner >>= rest_by negative
@@ -227,7 +125,7 @@ module _ (names : List Naming) where
         Takes-then names true (sum_of true first more) (one (Sign 45)) (ATerm first ▸ each MoreTerm more) AfterSum (eat 45) signed_by (Takes-eat names 45) (from_first true first more)
     Takes-signed false first more =
         Takes-bind names false (sum_of false first more) nothing (ATerm first ▸ each MoreTerm more) (λ rest. shows_sign 45 rest ≡ false) AfterSum (eat 45) signed_by (Takes-no_sign names 45) (from_first false first more)
-        (λ back rest h after. Opens-before back rest (Opens-joined h (term_opens first h.front h.first)))
+        (λ back rest h after. Opens-before back rest (Opens-joined h (term_opens names operators inner InParentheses inner_takes inner_opens first h.front h.first)))
 
     pub Takes-sum : (x : Expr) → Takes names (sum operators inner) x (IsSum names operators InParentheses x) AfterSum
     unfolding sum

@@ -1,30 +1,28 @@
 -- A text that stands for a problem and a report is read as those. Main lemma `forms_are_taken`; `read_first_form` cites it as
 -- `gives_none`, and the law `texts_stand_for_one_form` rests on it.
-use Rattle.std.proofs.Common.{◌≡◌, ℕ, ◌+◌, ◌<◌, ◌≤◌, Bool, true, false, cond, List, [], ◌∷◌, ◌++◌, length, Option, Some, None, Result, Ok, Err, IfErr, refl, sym, ap, ◌∙◌, subst, arith, codes}
-use Rattle.std.proofs.lemmas.List.{append_assoc, append-nil}
+use Rattle.std.proofs.Common.{◌≡◌, ℕ, ◌<◌, ◌≤◌, Bool, true, cond, List, [], ◌∷◌, ◌++◌, length, Option, Some, None, Result, Ok, Err, IfErr, refl, sym, ap, ◌∙◌, subst, arith, codes}
+use Rattle.std.proofs.lemmas.List.{append-nil}
 use Rattle.ct_token.specs.Lexical.{scan_of}
 use Rattle.ct_ore.specs.Naming.{Naming}
 use Rattle.ct_problem.specs.declared.expr.Expr.{Expr}
 use Rattle.ct_problem.specs.declared.first_form.FirstForm.{FirstForm}
-use Rattle.ct_problem.specs.declared.first_form.Report.{Report}
 use Rattle.ct_problem.specs.declared.fault.ReadFault.{ReadFault}
 use Rattle.ct_problem.specs.declared.fault.ReadFault.TheVariants.{NotYet}
 use Rattle.ct_problem.specs.declared.reading.body.Body.{Body}
 use Rattle.ct_problem.specs.Input.{Input, Parser, ◌>>=◌, and_then, pure, input_at, with_names}
-use Rattle.ct_problem.specs.Plain.{is_plain}
 use Rattle.ct_problem.specs.Declarations.{summed_texts, is_algebra}
 use Rattle.ct_problem.specs.ProblemLines.{generators, support}
 use Rattle.ct_problem.specs.ReportLines as rules
 use Rattle.ct_problem.specs.FirstForm.{after_names, problem_and_report, form_of, form_by, form_of_scan, first_form_of, Gives}
 use Rattle.ct_problem.specs.FirstForm as form
-use Rattle.ct_problem.specs.Lexemes.{Lexeme, Word, Texts, nothing, one, ◌▸◌, each, lexemes}
+use Rattle.ct_problem.specs.Lexemes.{Lexeme, Word, Texts, nothing, one, ◌▸◌, each}
 use Rattle.ct_problem.specs.GrammarLines as grammar
 use Rattle.ct_problem.specs.GrammarLines.{StandsFor, StandsForNone, keyed, shape}
 use Rattle.ct_problem.specs.GrammarLaws.{TextsStandForOneForm}
-use Rattle.ct_problem.proofs.LexemeSteps.{shown, shows_word}
+use Rattle.ct_problem.proofs.LexemeSteps.{shown}
 use Rattle.ct_problem.proofs.LexemeStarts.{begun-shows}
-use Rattle.ct_problem.proofs.Spelling.{joined_to_right}
-use Rattle.ct_problem.proofs.Taking.{Taken, Takes, anywhere, Taken-bind, Takes-bind, Takes-then, Takes-last}
+use Rattle.ct_problem.proofs.JoinedTexts.{joined_to_right}
+use Rattle.ct_problem.proofs.Taking.{Takes, Takes-bind, Takes-then, Takes-last}
 use Rattle.ct_problem.proofs.TakenLines.{NoGenerator, Takes-generators, Takes-support}
 use Rattle.ct_problem.proofs.TakenNames.{NoName, Takes-names}
 use Rattle.ct_problem.proofs.TakenReports.{Takes-report}

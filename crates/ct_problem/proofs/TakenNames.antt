@@ -1,25 +1,23 @@
 -- Lexemes that stand for the lines of names are read as those names. Main lemma `Takes-names`.
-use Rattle.std.proofs.Common.{◌≡◌, ℕ, zero, suc, ◌+◌, ◌≤◌, ◌&&◌, Bool, true, false, cond, List, [], ◌∷◌, ◌++◌, length, Option, Some, None, IsTrue, refl, sym, ap, ◌∙◌, subst, arith, codes}
+use Rattle.std.proofs.Common.{◌≡◌, ℕ, zero, suc, ◌≤◌, ◌&&◌, Bool, true, false, cond, List, [], ◌∷◌, ◌++◌, length, Option, Some, None, IsTrue, refl, sym, ap, ◌∙◌, subst, arith, codes}
 use Rattle.std.specs.Str.{bytes_eq}
 use Rattle.std.proofs.lemmas.List.{append_assoc, append-nil}
 use Rattle.ct_algebra.specs.Actions.{Action, Shift, Derive, Still}
 use Rattle.ct_token.specs.declared.token.Symbol.{Symbol}
-use Rattle.ct_token.specs.declared.token.Symbol.TheVariants as symbol
 use Rattle.ct_ore.specs.Naming.{Naming}
 use Rattle.ct_ore.specs.declared.algebra.Role.{Role}
 use Rattle.ct_ore.specs.declared.algebra.Role.TheVariants as role
 use Rattle.ct_problem.specs.declared.reading.declarations.NameLine.{NameLine}
 use Rattle.ct_problem.specs.declared.reading.declarations.NameLine.TheVariants.{Free, Sum, Int, Param}
 use Rattle.ct_problem.specs.Input.{Input, Outcome, Parser, ◌>>=◌, ◌>>◌, and_then, pure, refuse, skip, next, eat_word, expect_word, line_end, spelling, sees_word}
-use Rattle.ct_problem.specs.Input as input
 use Rattle.ct_problem.specs.Declarations.{name_line, is_word_symbol, is_new, is_new_name, free_action, action_of_line, role_of_line, declaration, declarations_by, declarations_from, name_lines, declarations, is_algebra}
 use Rattle.ct_problem.specs.Lines as read
 use Rattle.ct_problem.specs.FirstForm as form
 use Rattle.ct_problem.specs.Lexemes.{Lexeme, Word, LineEnd, Texts, nothing, one, ◌▸◌}
 use Rattle.ct_problem.specs.GrammarLines as grammar
 use Rattle.ct_problem.proofs.LexemeSteps.{shown, shows_word, sees_word-shown}
-use Rattle.ct_problem.proofs.Spelling.{joined_to_right}
-use Rattle.ct_problem.proofs.Taking.{Taken, Takes, anywhere, Taken-bind, Takes-pure, Takes-as, Takes-value, Takes-to_right, Takes-bind, Takes-then, Takes-next, Takes-last, Takes-skip, Takes-eat_word, Takes-no_word, Takes-expect_word, Takes-line_end, shows_a_word, spelling-shown, next-shown}
+use Rattle.ct_problem.proofs.JoinedTexts.{joined_to_right}
+use Rattle.ct_problem.proofs.Taking.{Taken, Takes, anywhere, Taken-bind, Takes-pure, Takes-value, Takes-to_right, Takes-then, Takes-next, Takes-last, Takes-skip, Takes-eat_word, Takes-no_word, Takes-expect_word, Takes-line_end, shows_a_word, spelling-shown, next-shown}
 use Rattle.ct_problem.proofs.TakenLines.{Takes-header}
 
 -- no name line begins
@@ -70,7 +68,7 @@ module _ (names : List Naming) where
       let head : shown i ≡ Word text ∷ (h.back ++ rest) = e ∙ ap (λ ls. ls ++ rest) (h.parts ∙ ap (λ xs. xs ++ h.back) h.first) in
       let spelled = spelling-shown i (h.back ++ rest) text head in
       let good : is_new_name found i ≡ true =
-          ap (λ (o : Option Symbol). is_word_symbol o && is_new (spelling i) found) (shows_a_word i (h.back ++ rest) text head) ∙ ap (λ (v : List ℕ). is_new v found) spelled ∙ new in
+      ap (λ (o : Option Symbol). is_word_symbol o && is_new (spelling i) found) (shows_a_word i (h.back ++ rest) text head) ∙ ap (λ (v : List ℕ). is_new v found) spelled ∙ new in
       let read : new_text found i ≡ Some (text, i) = ap (λ (b : Bool). cond {A = Outcome (List ℕ)} b (Some (spelling i, i)) None) good ∙ ap (λ (v : List ℕ). Some (v, i)) spelled in
       let s = t (next i) h.back rest here (next-shown i (h.back ++ rest) (Word text) head) h.second after in
       record { left = s.left; reads = ap (λ o. and_then o (λ t. skip >> q t)) read ∙ s.reads; shows = s.shows; declared = s.declared }
@@ -149,8 +147,8 @@ module _ (names : List Naming) where
   Takes-declarations_from [] found (suc n) enough i used rest here e u after =
       let here_shown : shown i ≡ rest = e ∙ ap (λ ls. ls ++ rest) u in
       let none = name_line_by i false false false false
-          (sees_word-shown (codes "free") i ∙ ap (shows_word (codes "free")) here_shown ∙ after.no_free) (sees_word-shown (codes "sum") i ∙ ap (shows_word (codes "sum")) here_shown ∙ after.no_sum)
-          (sees_word-shown (codes "int") i ∙ ap (shows_word (codes "int")) here_shown ∙ after.no_int) (sees_word-shown (codes "param") i ∙ ap (shows_word (codes "param")) here_shown ∙ after.no_param) in
+      (sees_word-shown (codes "free") i ∙ ap (shows_word (codes "free")) here_shown ∙ after.no_free) (sees_word-shown (codes "sum") i ∙ ap (shows_word (codes "sum")) here_shown ∙ after.no_sum)
+      (sees_word-shown (codes "int") i ∙ ap (shows_word (codes "int")) here_shown ∙ after.no_int) (sees_word-shown (codes "param") i ∙ ap (shows_word (codes "param")) here_shown ∙ after.no_param) in
       subst (λ (ns : List Naming). Taken names (declarations_from (suc n) found) i ns rest) (sym (append-nil found))
       (record { left = i; reads = ap (λ (o : Option NameLine). declarations_by (more_by n found) found o i) none; shows = here_shown; declared = here })
   Takes-declarations_from (m ∷ more) found zero enough i used rest here e h after = let no : ⊥ = omega (arith, enough) in absurd no

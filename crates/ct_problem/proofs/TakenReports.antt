@@ -1,5 +1,5 @@
 -- Lexemes that stand for a report are read as that report. Main lemma `Takes-report`, line by line.
-use Rattle.std.proofs.Common.{◌≡◌, ℕ, zero, suc, ◌+◌, ◌<◌, ◌≤◌, ◌==◌, Bool, true, false, cond, List, [], ◌∷◌, ◌++◌, length, Option, Some, None, refl, sym, ap, ◌∙◌, subst, arith, codes}
+use Rattle.std.proofs.Common.{◌≡◌, ℕ, suc, ◌+◌, ◌≤◌, true, false, List, [], ◌∷◌, ◌++◌, length, refl, sym, ap, ◌∙◌, arith, codes}
 use Rattle.std.proofs.lemmas.List.{append_assoc, append-nil}
 use Rattle.ct_token.specs.declared.token.Token.{Token}
 use Rattle.ct_mono.specs.Limits.{largest_norm}
@@ -7,20 +7,15 @@ use Rattle.ct_ore.specs.Naming.{Naming}
 use Rattle.ct_problem.specs.declared.expr.Expr.{Expr}
 use Rattle.ct_problem.specs.declared.first_form.Quotient.{Quotient}
 use Rattle.ct_problem.specs.declared.first_form.Report.{Report}
-use Rattle.ct_problem.specs.Input.{Input, Parser, ◌>>=◌, ◌>>◌, pure, refuse, eat_word, expect, expect_word, line_end, dots}
+use Rattle.ct_problem.specs.Input.{Input, Parser, ◌>>=◌, ◌>>◌, pure, expect, expect_word, line_end}
 use Rattle.ct_problem.specs.Number as digits
-use Rattle.ct_problem.specs.Expressions.{expression}
 use Rattle.ct_problem.specs.Lines as read
-use Rattle.ct_problem.specs.ProblemLines.{generators, generators_from, more_generators, support}
 use Rattle.ct_problem.specs.ReportLines as rules
-use Rattle.ct_problem.specs.Lexemes.{Lexeme, Word, Number, Sign, Dots, LineEnd, Texts, nothing, one, number, ◌▸◌, each, lexemes}
-use Rattle.ct_problem.specs.Grammar.{IsExpression}
-use Rattle.ct_problem.specs.GrammarLines.{header, last_line, value, keyed, part, quotient, cofactor, cofactors, each_with, single, shape, numbered, found_line}
-use Rattle.ct_problem.specs.GrammarLines as grammar
-use Rattle.ct_problem.proofs.LexemeSteps.{shown, shows_sign, shows_word}
-use Rattle.ct_problem.proofs.Spelling.{to_nothing}
-use Rattle.ct_problem.proofs.Taking.{Taken, Takes, anywhere, Takes-pure, Takes-as, Takes-value, Takes-to_right, Takes-bind, Takes-then, Takes-next, Takes-last, Takes-eat_word, Takes-no_word, Takes-expect, Takes-expect_word, Takes-line_end, Takes-dots, Takes-number, Takes-exactly}
-use Rattle.ct_problem.proofs.TakenExpressions.{Takes-expression}
+use Rattle.ct_problem.specs.Lexemes.{Word, Number, Sign, LineEnd, nothing, one, number, ◌▸◌, lexemes}
+use Rattle.ct_problem.specs.GrammarLines.{header, last_line, value, keyed, part, quotient, cofactor, cofactors, each_with, numbered, found_line}
+use Rattle.ct_problem.proofs.LexemeSteps.{shown}
+use Rattle.ct_problem.proofs.JoinedTexts.{to_nothing}
+use Rattle.ct_problem.proofs.Taking.{Takes, anywhere, Takes-pure, Takes-as, Takes-value, Takes-to_right, Takes-then, Takes-next, Takes-last, Takes-expect, Takes-expect_word, Takes-line_end, Takes-number, Takes-exactly}
 use Rattle.ct_problem.proofs.TakenLines.{Takes-header, Takes-value_line, Takes-keyed, Takes-part}
 
 module _ (names : List Naming) where

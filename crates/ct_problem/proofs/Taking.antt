@@ -1,7 +1,7 @@
 -- What a rule of the reader does with lexemes that stand for a value: it gives that value, and leaves what comes after them.
 --     Takes names p x L F     from lexemes of L, before a rest that F allows, p gives x and leaves the rest
 --     Takes-bind and others   the steps that every rule is made of
-use Rattle.std.proofs.Common.{◌≡◌, ◌≢◌, ℕ, suc, ◌≤◌, ◌==◌, Bool, true, false, cond, List, [], ◌∷◌, ◌++◌, Option, Some, None, refl, sym, ap, ◌∙◌, subst, arith, rules, tests, nat_lt}
+use Rattle.std.proofs.Common.{◌≡◌, ◌≢◌, ℕ, ◌≤◌, ◌==◌, Bool, true, false, cond, List, [], ◌∷◌, ◌++◌, Option, Some, None, refl, sym, ap, ◌∙◌, subst, arith, rules, tests, nat_lt}
 use Rattle.std.specs.Str.{bytes_eq}
 use Rattle.std.proofs.lemmas.List.{append_assoc}
 use Rattle.std.proofs.lemmas.Slice.Eq.{bytes_eq-Decides}
@@ -16,7 +16,7 @@ use Rattle.ct_problem.specs.Input as input
 use Rattle.ct_problem.specs.Number as digits
 use Rattle.ct_problem.specs.Lexemes.{Lexeme, Word, Number, Sign, Dots, LineEnd, Texts, nothing, one, number, ◌▸◌, lexeme_of, lexemes, decimal}
 use Rattle.ct_problem.proofs.LexemeSteps.{shown, shows_sign, shows_word, after_first, sees-shown, sees_word-shown, shown-next, shown-symbol, value_of-small}
-use Rattle.ct_problem.proofs.Spelling.{joined_to_right}
+use Rattle.ct_problem.proofs.JoinedTexts.{joined_to_right}
 
 -- the symbol of the next token
 first_symbol : List Lexeme → Option Symbol

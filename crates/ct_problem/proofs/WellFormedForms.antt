@@ -1,6 +1,6 @@
 -- What is read in the first form is well formed. Main lemma `forms_are_well_formed`, line by line; `read_first_form` cites it as
 -- `gives_well_formed`.
-use Rattle.std.proofs.Common.{◌≡◌, ℕ, zero, suc, ◌+◌, ◌<◌, ◌≤◌, Bool, true, false, cond, List, [], ◌∷◌, ◌++◌, length, Option, Some, None, Result, Ok, Err, IfOk, refl, sym, ap, ◌∙◌, subst, arith, length-append, codes}
+use Rattle.std.proofs.Common.{◌≡◌, ℕ, zero, suc, ◌+◌, ◌≤◌, Bool, true, false, cond, List, [], ◌∷◌, ◌++◌, length, Option, Some, None, Result, Ok, Err, IfOk, refl, sym, ap, subst, arith, codes}
 use Rattle.ct_token.specs.declared.token.Token.{Token}
 use Rattle.ct_token.specs.Lexical.{scan_of}
 use Rattle.ct_token.proofs.TokenPlaces.{scans_are_tokens}
@@ -11,112 +11,24 @@ use Rattle.ct_problem.specs.declared.first_form.Quotient.{Quotient}
 use Rattle.ct_problem.specs.declared.first_form.Report.{Report}
 use Rattle.ct_problem.specs.declared.fault.ReadFault.{ReadFault}
 use Rattle.ct_problem.specs.declared.reading.body.Body.{Body}
-use Rattle.ct_problem.specs.Input.{Input, Outcome, ◌>>=◌, ◌>>◌, and_then, pure, eat_word, line_end, input_at, with_names}
+use Rattle.ct_problem.specs.Input.{Input, Outcome, ◌>>=◌, and_then, pure, input_at, with_names}
 use Rattle.ct_problem.specs.Number.{number}
-use Rattle.ct_problem.specs.Expressions.{expression}
-use Rattle.ct_problem.specs.Lines.{value, part, single}
+use Rattle.ct_problem.specs.Lines.{part}
 use Rattle.ct_problem.specs.Plain.{is_plain}
 use Rattle.ct_problem.specs.Declarations.{summed_texts}
-use Rattle.ct_problem.specs.ProblemLines.{generators, generators_from, more_generators, support}
+use Rattle.ct_problem.specs.ProblemLines.{generators, support}
 use Rattle.ct_problem.specs.ReportLines.{report, found_line, numbered, largest_index, keyed, quotient, quotients_from, factors_of, cofactor, cofactors_from, finish, at_end, at_end_by}
 use Rattle.ct_problem.specs.FirstForm.{after_names, problem_and_report, form_of, form_by, form_of_scan, first_form_of, Gives}
 use Rattle.ct_problem.specs.FirstForm as form
-use Rattle.ct_problem.specs.WellFormed.{IsOperator, IsPolynomial, Each, IsQuotient, IsReportOn, IsWellFormed}
-use Rattle.ct_problem.proofs.Steps.{IsAt, Makes, Anything, Makes-pure, Makes-refuse, Makes-cond, Makes-seen, Makes-bind, Makes-then, Makes-weaker, Makes-eat_word, Makes-expect, Makes-expect_word, Makes-line_end, Makes-dots, Makes-number, Makes-exactly, Makes-header}
+use Rattle.ct_problem.specs.WellFormed.{IsOperator, IsPolynomial, IsQuotient, IsReportOn, IsWellFormed}
+use Rattle.ct_problem.proofs.Steps.{IsAt, Makes, Anything, Makes-pure, Makes-refuse, Makes-seen, Makes-bind, Makes-then, Makes-weaker, Makes-expect, Makes-expect_word, Makes-line_end, Makes-number, Makes-exactly, Makes-header}
 use Rattle.ct_problem.proofs.SummedActions.{summed_act, summed_length}
 use Rattle.ct_problem.proofs.AlgebraNames.{IsSummable, Makes-names}
-use Rattle.ct_problem.proofs.EvaluableExpressions.{IsFor, Each-more, Makes-expression}
+use Rattle.ct_problem.proofs.WellFormedLines.{AreSo, one_more, recounted, AreGenerators, IsSupport, Makes-operator, Makes-polynomial, Makes-part, Makes-keyed, Makes-support, Makes-generators}
 
--- ---- lists of lines
-
--- so many values
-pub record AreSo {X : Type 0} (P : X → Type 0) (count : ℕ) (xs : List X) : Type 0 where
-  pub each : Each P xs
-  pub counted : length xs ≡ count
-
-one_more : {X : Type 0} (P : X → Type 0) (count : ℕ) (xs : List X) (x : X) → AreSo P count xs → P x → AreSo P (count + 1) (xs ++ x ∷ [])
-one_more P count xs x known h = let counted = known.counted in record { each = Each-more P xs x known.each h; counted = omega (arith, length-append xs (x ∷ []), counted) }
-
-recounted : {X : Type 0} (P : X → Type 0) (n m : ℕ) (xs : List X) → n ≡ m → AreSo P n xs → AreSo P m xs
-recounted P n m xs e known = record { each = known.each; counted = known.counted ∙ e }
-
--- generators, of which so many more may come
-pub record AreGenerators (left : ℕ) (xs : List Expr) : Type 0 where
-  pub each : Each IsOperator xs
-  pub some : 0 < length xs
-  pub few : length xs + left ≤ 16
-
-pub record IsSupport (shape : ℕ × ℕ) : Type 0 where
-  pub order : shape.0 ≤ 8
-  pub degree : shape.1 ≤ 12
+-- ---- the report
 
 module _ (names : List Naming) (few : length names ≤ 6) where
-  Makes-value : (operators : Bool) → Makes names (value operators) (IsFor operators)
-  unfolding value
-  Makes-value operators =
-      Makes-bind names (IsFor operators) (IsFor operators) (expression operators) (λ x. line_end >> pure x) (Makes-expression names few operators)
-      (λ x h. Makes-then names (IsFor operators) _ _ (Makes-line_end names) (Makes-pure names (IsFor operators) x h))
-
-  Makes-operator : Makes names (value true) IsOperator
-  Makes-operator = Makes-weaker names (IsFor true) IsOperator (value true) (λ x h. h.evaluable) (Makes-value true)
-
-  polynomial_is : (x : Expr) → IsFor false x → IsPolynomial x
-  polynomial_is x h = record { evaluable = h.evaluable; plain = h.plain refl }
-
-  Makes-polynomial : Makes names (value false) IsPolynomial
-  Makes-polynomial = Makes-weaker names (IsFor false) IsPolynomial (value false) polynomial_is (Makes-value false)
-
-  module _ (P : Expr → Type 0) (operators : Bool) (line : Makes names (value operators) P) where
-    Makes-part : (key text : List ℕ) → Makes names (part key text operators) P
-    unfolding part
-    Makes-part key text = Makes-then names P _ _ (Makes-expect_word names key) (Makes-then names P _ _ (Makes-expect_word names text) (Makes-then names P _ _ (Makes-expect names 58) line))
-
-    Makes-keyed : (key : List ℕ) → Makes names (keyed key operators) P
-    unfolding keyed
-    Makes-keyed key = Makes-then names P _ _ (Makes-expect_word names key) line
-
-  -- ---- the problem
-
-  Makes-single : (key : List ℕ) (limit : ℕ) → Makes names (single key limit) (λ n. n ≤ limit)
-  unfolding single
-  Makes-single key limit =
-      Makes-then names (λ n. n ≤ limit) _ _ (Makes-expect_word names key)
-      (Makes-bind names (λ n. n ≤ limit) (λ n. n ≤ limit) (number limit) _ (Makes-number names limit) (λ n within.
-      Makes-then names (λ m. m ≤ limit) _ _ (Makes-dots names) (Makes-then names (λ m. m ≤ limit) _ _ (Makes-exactly names n)
-      (Makes-then names (λ m. m ≤ limit) _ _ (Makes-line_end names) (Makes-pure names (λ m. m ≤ limit) n within)))))
-
-  Makes-support : Makes names support IsSupport
-  unfolding support
-  Makes-support =
-      Makes-bind names (λ n. n ≤ 8) IsSupport (single (codes "order") 8) _ (Makes-single (codes "order") 8) (λ order low.
-      Makes-bind names (λ n. n ≤ 12) IsSupport (single (codes "degree") 12) _ (Makes-single (codes "degree") 12) (λ degree small.
-      Makes-then names IsSupport _ _ (Makes-expect_word names (codes "end")) (Makes-then names IsSupport _ _ (Makes-line_end names)
-      (Makes-pure names IsSupport (order, degree) (record { order = low; degree = small })))))
-
-  Makes-more : (n : ℕ) (found : List Expr) → AreGenerators n found → Makes names (generators_from n found) (AreGenerators 0)
-  unfolding generators_from
-  Makes-more zero found known = Makes-pure names (AreGenerators 0) found known
-  Makes-more (suc n) found known =
-      let room = known.few in
-      Makes-bind names Anything (AreGenerators 0) (eat_word (codes "gen")) _ (Makes-eat_word names (codes "gen")) (λ more _.
-      Makes-cond names (AreGenerators 0) more (value true >>= (λ x. generators_from n (found ++ x ∷ []))) (pure found)
-      (λ _. Makes-bind names IsOperator (AreGenerators 0) (value true) (λ x. generators_from n (found ++ x ∷ [])) Makes-operator (λ x h.
-      Makes-more n (found ++ x ∷ []) (record {
-        each = Each-more IsOperator found x known.each h;
-        some = omega (arith, length-append found (x ∷ []));
-        few = omega (arith, length-append found (x ∷ []), room);
-      })))
-      (λ _. Makes-pure names (AreGenerators 0) found (record { each = known.each; some = known.some; few = omega (arith, room) })))
-
-  Makes-generators : Makes names generators (AreGenerators 0)
-  unfolding generators more_generators
-  Makes-generators =
-      Makes-then names (AreGenerators 0) _ _ (Makes-expect_word names (codes "gen"))
-      (Makes-bind names IsOperator (AreGenerators 0) (value true) (λ x. generators_from 15 (x ∷ [])) Makes-operator (λ x h.
-      Makes-more 15 (x ∷ []) (record { each = (h, tt); some = omega arith; few = omega arith })))
-
-  -- ---- the report
-
   Makes-numbered : (key : List ℕ) → Makes names (numbered key) Anything
   Makes-numbered key = Makes-then names Anything _ _ (Makes-expect_word names key) (Makes-weaker names (λ n. n ≤ largest_index) Anything (number largest_index) (λ _ _. tt) (Makes-number names largest_index))
 
@@ -131,8 +43,8 @@ module _ (names : List Naming) (few : length names ≤ 6) where
   Makes-quotient : (text : List ℕ) → Makes names (quotient text) IsQuotient
   unfolding quotient
   Makes-quotient text =
-      Makes-bind names IsOperator IsQuotient (part (codes "numerator") text true) _ (Makes-part IsOperator true Makes-operator (codes "numerator") text) (λ numerator n.
-      Makes-bind names IsPolynomial IsQuotient (part (codes "denominator") text false) _ (Makes-part IsPolynomial false Makes-polynomial (codes "denominator") text) (λ denominator d.
+      Makes-bind names IsOperator IsQuotient (part (codes "numerator") text true) _ (Makes-part names few IsOperator true (Makes-operator names few) (codes "numerator") text) (λ numerator n.
+      Makes-bind names IsPolynomial IsQuotient (part (codes "denominator") text false) _ (Makes-part names few IsPolynomial false (Makes-polynomial names few) (codes "denominator") text) (λ denominator d.
       Makes-pure names IsQuotient (record { numerator = numerator; denominator = denominator }) (record { numerator = n; denominator = d })))
 
   Makes-quotients : (texts : List (List ℕ)) (count : ℕ) (found : List Quotient) → AreSo IsQuotient count found → Makes names (quotients_from texts found) (AreSo IsQuotient (count + length texts))
@@ -147,14 +59,14 @@ module _ (names : List Naming) (few : length names ≤ 6) where
   unfolding factors_of
   Makes-factors [] count found known = Makes-pure names _ found (recounted IsPolynomial count (count + 0) found (omega arith) known)
   Makes-factors (text ∷ texts) count found known =
-      Makes-bind names IsPolynomial (AreSo IsPolynomial (count + suc (length texts))) (part (codes "part") text false) (λ x. factors_of texts (found ++ x ∷ [])) (Makes-part IsPolynomial false Makes-polynomial (codes "part") text) (λ x h.
+      Makes-bind names IsPolynomial (AreSo IsPolynomial (count + suc (length texts))) (part (codes "part") text false) (λ x. factors_of texts (found ++ x ∷ [])) (Makes-part names few IsPolynomial false (Makes-polynomial names few) (codes "part") text) (λ x h.
       Makes-weaker names (AreSo IsPolynomial (count + 1 + length texts)) (AreSo IsPolynomial (count + suc (length texts))) (factors_of texts (found ++ x ∷ [])) (λ xs. recounted IsPolynomial (count + 1 + length texts) (count + suc (length texts)) xs (omega arith))
       (Makes-factors texts (count + 1) (found ++ x ∷ []) (one_more IsPolynomial count found x known h)))
 
   Makes-cofactor : (place : ℕ) → Makes names (cofactor place) IsOperator
   unfolding cofactor
   Makes-cofactor place =
-      Makes-then names IsOperator _ _ (Makes-expect_word names (codes "cofactor")) (Makes-then names IsOperator _ _ (Makes-exactly names place) (Makes-then names IsOperator _ _ (Makes-expect names 58) Makes-operator))
+      Makes-then names IsOperator _ _ (Makes-expect_word names (codes "cofactor")) (Makes-then names IsOperator _ _ (Makes-exactly names place) (Makes-then names IsOperator _ _ (Makes-expect names 58) (Makes-operator names few)))
 
   Makes-cofactors : (place n count : ℕ) (found : List Expr) → AreSo IsOperator count found → Makes names (cofactors_from place n found) (AreSo IsOperator (count + n))
   unfolding cofactors_from
@@ -177,9 +89,9 @@ module _ (names : List Naming) (few : length names ≤ 6) where
   Makes-report summed count =
       Makes-then names P _ _ (Makes-header names (codes "report"))
       (Makes-bind names Anything P found_line _ Makes-found_line (λ place _.
-      Makes-bind names IsOperator P (keyed (codes "telescoper") true) _ (Makes-keyed IsOperator true Makes-operator (codes "telescoper")) (λ telescoper t.
+      Makes-bind names IsOperator P (keyed (codes "telescoper") true) _ (Makes-keyed names few IsOperator true (Makes-operator names few) (codes "telescoper")) (λ telescoper t.
       Makes-bind names (AreSo IsQuotient (0 + length summed)) P (quotients_from summed []) _ (Makes-quotients summed 0 [] (record { each = tt; counted = refl })) (λ quotients q.
-      Makes-bind names IsPolynomial P (keyed (codes "scale") false) _ (Makes-keyed IsPolynomial false Makes-polynomial (codes "scale")) (λ scale s.
+      Makes-bind names IsPolynomial P (keyed (codes "scale") false) _ (Makes-keyed names few IsPolynomial false (Makes-polynomial names few) (codes "scale")) (λ scale s.
       Makes-bind names (AreSo IsPolynomial (0 + length summed)) P (factors_of summed []) _ (Makes-factors summed 0 [] (record { each = tt; counted = refl })) (λ factors f.
       Makes-bind names (AreSo IsOperator (0 + count)) P (cofactors_from 1 count []) _ (Makes-cofactors 1 count 0 [] (record { each = tt; counted = refl })) (λ cofactors c.
       Makes-then names P _ _ Makes-finish (Makes-pure names P (record { index = place.0; order = place.1; degree = place.2; telescoper = telescoper; quotients = quotients; scale = scale; factors = factors; cofactors = cofactors }) (record {

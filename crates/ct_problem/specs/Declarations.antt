@@ -3,18 +3,17 @@
 -- A name is a word of at most 32 bytes that was not declared before and isn't `S` or `D`. `sum` declares a shift and `int` a
 -- derivation, both summed. At most four names have operators, and one to three are summed.
 --     declarations     the rule of these lines
-use Rattle.std.specs.Prelude.{ℕ, zero, suc, Bool, true, false, not, ◌&&◌, ◌||◌, if◌then◌else◌, nat_le, List, [], ◌∷◌, ◌++◌, length, position, is_none, count_by, Option, Some, None, codes}
-use Rattle.std.specs.Str.{bytes_eq}
+use Rattle.std.specs.Prelude.{ℕ, zero, suc, Bool, true, false, ◌&&◌, if◌then◌else◌, List, [], ◌∷◌, ◌++◌, Option, Some, None, codes}
 use Rattle.ct_token.specs.declared.token.Symbol.{Symbol}
 use Rattle.ct_token.specs.declared.token.Symbol.TheVariants.{Word}
 use Rattle.ct_algebra.specs.Actions as actions
-use Rattle.ct_ore.specs.Naming.{Naming, has_operator}
+use Rattle.ct_ore.specs.Naming.{Naming}
 use Rattle.ct_ore.specs.declared.algebra.Role.{Role}
 use Rattle.ct_ore.specs.declared.algebra.Role.TheVariants as role
 unfoldable pub use Rattle.ct_problem.specs.DeclaredNames.{is_new, with_text, summed_texts, is_algebra}
 use Rattle.ct_problem.specs.declared.reading.declarations.NameLine.{NameLine}
 use Rattle.ct_problem.specs.declared.reading.declarations.NameLine.TheVariants.{Free, Sum, Int, Param}
-use Rattle.ct_problem.specs.Input.{Input, Parser, ◌>>=◌, ◌>>◌, pure, refuse, skip, spelling, symbol, sees_word, eat_word, expect_word, line_end, is_wanted}
+use Rattle.ct_problem.specs.Input.{Input, Parser, ◌>>=◌, ◌>>◌, pure, refuse, skip, spelling, symbol, sees_word, eat_word, expect_word, line_end}
 
 -- which name line begins here
 unfoldable pub name_line : Input → Option NameLine

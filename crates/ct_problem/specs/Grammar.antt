@@ -8,7 +8,7 @@
 -- coefficient, exponents at most the greatest degree, and at most 64 parentheses are open at once. A name is the first that was
 -- declared with its letters; `S` stands before a shift, `D` before a derivation. A polynomial has neither.
 --     IsExpression names operators x ls     these lexemes are an EXPR that stands for x, with operators or without
-use Rattle.std.specs.Prelude.{◌≡◌, ◌≢◌, ℕ, zero, suc, Bool, true, false, if◌then◌else◌, List, [], ◌∷◌, map, position, Some, None, IsTrue, pos, codes}
+use Rattle.std.specs.Prelude.{◌≡◌, ◌≢◌, ℕ, zero, suc, Bool, false, if◌then◌else◌, List, [], ◌∷◌, map, position, Some, None, IsTrue, pos, codes}
 use Rattle.ct_algebra.specs.Actions.{Action, Shift, Derive}
 use Rattle.ct_mono.specs.Limits.{largest_degree, largest_norm}
 use Rattle.ct_ore.specs.Naming.{Naming}
@@ -16,7 +16,7 @@ use Rattle.ct_problem.specs.declared.expr.Expr.{Expr}
 use Rattle.ct_problem.specs.declared.expr.Expr.TheVariants as e
 use Rattle.ct_problem.specs.declared.expr.Summand.{Summand, roll-Summand}
 use Rattle.ct_problem.specs.DeclaredNames.{is_wanted}
-use Rattle.ct_problem.specs.Lexemes.{Lexeme, Word, Sign, Texts, nothing, one, optional, number, ◌▸◌, each}
+use Rattle.ct_problem.specs.Lexemes.{Lexeme, Word, Sign, Texts, one, optional, number, ◌▸◌, each}
 use Rattle.ct_problem.specs.Signs.{plus, minus, star, caret, open_parenthesis, close_parenthesis, open_bracket, close_bracket}
 
 -- ---- values

@@ -9,13 +9,12 @@
 --     Reads c r new             what a function that reads may answer to a rule's outcome c: what was read, with the cursor
 --                               where the rule left it, or that the rule doesn't apply, or want of memory
 --     ReadsBy f c r new         the same of a result that is seen through f
-use Rattle.std.specs.Prelude.{◌≡◌, ℕ, ◌-◌, Bool, true, false, if◌then◌else◌, ◌==◌, ◌&&◌, List, [], ◌∷◌, length, take, drop, min, position, Option, Some, None, Result, Ok, Err}
+use Rattle.std.specs.Prelude.{◌≡◌, ℕ, ◌-◌, Bool, false, if◌then◌else◌, ◌==◌, List, [], ◌∷◌, length, take, drop, min, position, Option, Some, None, Result, Ok, Err}
 use Rattle.std.specs.Str.{bytes_eq}
 use Rattle.ct_token.specs.declared.token.Symbol.{Symbol}
 use Rattle.ct_token.specs.declared.token.Symbol.TheVariants.{Word, Sign, Dots, LineEnd}
 use Rattle.ct_token.specs.declared.token.Token.{Token}
 use Rattle.ct_algebra.specs.Actions.{Action}
-use Rattle.ct_algebra.specs.Actions as actions
 use Rattle.ct_ore.specs.Naming.{Naming}
 pub use Rattle.ct_problem.specs.DeclaredNames.{is_named, same_action, is_wanted}
 use Rattle.ct_problem.specs.declared.fault.ReadFault.{ReadFault}

@@ -1,6 +1,8 @@
-// Which texts are in the first form.
+// Which texts are in the first form, and the values of what is read.
 
-use crate::{ReadFault, read_first_form};
+use crate::{ReadFault, evaluate, evaluate_polynomial, read_first_form, summed_names};
+use ct_ore::Op;
+use ct_poly::Poly;
 use std::alloc::{AllocError, Global};
 use std::test::Fail;
 
@@ -149,5 +151,64 @@ fn lines_stand_as_they_must(rt: HostRuntime) -> Result<(), Fail> {
     assert_eq!(rt; is_read(rt.alloc(), cut)?, false);
     let more = format!(in rt.alloc(); "{text}end\n")?;
     assert_eq!(rt; is_read(rt.alloc(), more.as_str())?, false);
+    Ok(())
+}
+
+/// Whether the coefficient terms are these: powers of the symbol of n, powers of n and k, and a number.
+fn is_operator(p: &Op, terms: &[(u16, u16, u16, i128)]) -> bool {
+    let mut rest = terms;
+    for t in p.terms() {
+        for c in t.coef.terms() {
+            let Some((want, more)) = rest.split_first() else {
+                return false;
+            };
+            if *want != (t.mono.exp(0), c.mono.exp(0), c.mono.exp(1), c.coef) {
+                return false;
+            }
+            rest = more;
+        }
+    }
+    rest.is_empty()
+}
+
+/// The same of a polynomial.
+fn is_polynomial(p: &Poly, terms: &[(u16, u16, i128)]) -> bool {
+    let mut rest = terms;
+    for c in p.terms() {
+        let Some((want, more)) = rest.split_first() else {
+            return false;
+        };
+        if *want != (c.mono.exp(0), c.mono.exp(1), c.coef) {
+            return false;
+        }
+        rest = more;
+    }
+    rest.is_empty()
+}
+
+#[test]
+fn what_is_read_has_its_value(rt: HostRuntime) -> Result<(), Fail> {
+    let report = REPORT.replace(rt.alloc(), "scale 1", "scale 3*(n + k)^2 - 1")?;
+    let report = report.replace(rt.alloc(), "S[n] - 2", "S[n]*n - (n + 1)^2")?;
+    let text = format!(in rt.alloc(); "{NAMES}gen 1\n{SUPPORT}{report}")?;
+    let form = read_first_form(rt.alloc(), text.as_bytes())?;
+    let algebra = &form.problem.algebra;
+    let telescoper = evaluate(rt.alloc(), algebra, &form.report.telescoper)?;
+    assert!(rt;
+        is_operator(
+            &telescoper,
+            &[
+                (1, 1, 0, 1),
+                (1, 0, 0, 1),
+                (0, 2, 0, -1),
+                (0, 1, 0, -2),
+                (0, 0, 0, -1)
+            ]
+        )
+    );
+    let scale = evaluate_polynomial(rt.alloc(), algebra, &form.report.scale)?;
+    assert!(rt; is_polynomial(&scale, &[(2, 0, 3), (1, 1, 6), (0, 2, 3), (0, 0, -1)]));
+    let summed = summed_names(rt.alloc(), algebra)?;
+    assert_eq!(rt; summed.as_slice(), [1u8].as_slice());
     Ok(())
 }
