@@ -1,4 +1,4 @@
--- The lines that declare names, one a line, at most six:
+-- The rules that read the lines of names, one a line, at most six:
 --     free NAME shift, free NAME diff, sum NAME, int NAME, param NAME
 -- A name is a word of at most 32 bytes that was not declared before and isn't `S` or `D`. `sum` declares a shift and `int` a
 -- derivation, both summed. At most four names have operators, and one to three are summed.

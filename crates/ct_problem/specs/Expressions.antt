@@ -1,4 +1,5 @@
--- The grammar of expressions.
+-- The rules that read expressions, token after token. `Grammar.antt` says which lexemes stand for which expression; these rules
+-- find it, with one token ahead and a count of turns.
 --     EXPR   = ["-"] TERM { ("+" | "-") TERM }
 --     TERM   = FACTOR { "*" FACTOR }
 --     FACTOR = ATOM [ "^" NUMBER ]

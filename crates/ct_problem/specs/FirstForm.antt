@@ -1,6 +1,7 @@
--- Texts in the first form: a problem with one support, and a report on it that found a telescoper.
+-- Reading a text in the first form: a problem with one support, and a report on it that found a telescoper. What such a text
+-- stands for is said in `GrammarLines.antt`; `read_first_form` has both, as its clauses `reads`, `accepts` and `refuses`.
 --     problem_and_report   the rule of the whole text
---     first_form_of bytes  what a text stands for, if it is in the first form
+--     first_form_of bytes  what a text is read as, if it is in the first form
 --     Gives o r            what a call may answer to that
 -- The names, and so what a word of an expression may be, are read before the first expression.
 use Rattle.std.specs.Prelude.{◌≡◌, ℕ, List, length, if◌then◌else◌, Option, Some, None, Result, Ok, Err, codes}

@@ -77,19 +77,23 @@ module _ (names : List Naming) where
   abbrev pub value : Bool → Expr → Texts
   value operators x = IsExpression names operators x ▸ one LineEnd
 
+  -- a line that begins with this word
   abbrev pub keyed : List ℕ → Bool → Expr → Texts
   keyed key operators x = one (Word key) ▸ value operators x
 
-  -- of a name with this text
+  -- the same of a name with this text
   abbrev pub part : List ℕ → Bool → List ℕ → Expr → Texts
   part key operators text x = one (Word key) ▸ one (Word text) ▸ one (Sign colon) ▸ value operators x
 
+  -- the two lines of a name's quotient
   abbrev pub quotient : List ℕ → Quotient → Texts
   quotient text q = part (codes "numerator") true text q.numerator ▸ part (codes "denominator") false text q.denominator
 
+  -- the line of the generator with this number
   abbrev pub cofactor : ℕ → Expr → Texts
   cofactor place x = one (Word (codes "cofactor")) ▸ one (Number place) ▸ one (Sign colon) ▸ value true x
 
+  -- the lines of the generators from this number on
   abbrev pub cofactors : ℕ → List Expr → Texts
   cofactors place [] = nothing
   cofactors place (x ∷ xs) = cofactor place x ▸ cofactors (place + 1) xs
@@ -106,19 +110,23 @@ each_with line _ _ = none
 abbrev pub single : List ℕ → ℕ → ℕ → Texts
 single key limit n = one (Word key) ▸ number limit n ▸ one Dots ▸ one (Number n) ▸ one LineEnd
 
+-- the last three lines of a problem
 abbrev pub shape : ℕ → ℕ → Texts
 shape order degree = single (codes "order") 8 order ▸ single (codes "degree") 12 degree ▸ last_line
 
+-- the lines of a problem
 abbrev pub problem : Problem → Texts
 problem p = header (codes "problem") ▸ declarations [] p.algebra ▸ each (keyed p.algebra (codes "gen") true) p.generators ▸ shape p.order p.degree
 
+-- a word, and a number after it
 abbrev pub numbered : List ℕ → ℕ → Texts
 numbered key n = one (Word key) ▸ number 65535 n
 
+-- the second line of a report
 abbrev pub found_line : ℕ → ℕ → ℕ → Texts
 found_line index order degree = numbered (codes "found") index ▸ numbered (codes "order") order ▸ numbered (codes "degree") degree ▸ one LineEnd
 
--- a report under these names
+-- the lines of a report under these names
 abbrev pub report : List Naming → Report → Texts
 report names r =
     header (codes "report")
@@ -141,5 +149,6 @@ pub record StandsFor (bytes : List ℕ) (form : FirstForm) : Type 0 where
   pub a_cofactor_each : length form.report.cofactors ≡ length form.problem.generators
   pub lines : (problem form.problem ▸ report form.problem.algebra form.report) (lexemes bytes (scan_of bytes 0).tokens)
 
+-- the bytes say no problem and report
 abbrev pub StandsForNone : List ℕ → Type 0
 StandsForNone bytes = (form : FirstForm) → StandsFor bytes form → ⊥

@@ -1,4 +1,4 @@
--- What a rule of the grammar reads from, and the steps that every rule is made of.
+-- What a rule reads from, and the steps that every rule is made of.
 --     Input                     a text, its tokens that are left, and the names that are declared
 --     Parser A                  a rule: what it reads and what is left then, or none where it doesn't apply
 --     p >>= f, p >> q, f <$> p  one rule after the other

@@ -3,9 +3,10 @@
 //! `read_first_form` reads a problem with one support and the report on it that found a telescoper. Names
 //! and symbols stand in an `Expr` as numbers of declared names.
 //!
-//! The grammar is a rule for each of its lines, made of steps that read tokens: read
-//! `specs/Expressions.antt` first, then the files of lines, and last `specs/FirstForm.antt`, where
-//! `first_form_of` is what a list of bytes stands for. A text in any other form is `NotYet`.
+//! Which bytes stand for which problem and report is a relation by the grammar: read `specs/Lexemes.antt`
+//! first, then `specs/Grammar.antt` for expressions and `specs/GrammarLines.antt` for lines. A text that
+//! stands for none is `NotYet`. `specs/FirstForm.antt` and the files of rules that it names read the same
+//! texts token after token, as the code does.
 //! `specs/WellFormed.antt` says what is known of all that was read.
 #![tactic(auto)]
 
