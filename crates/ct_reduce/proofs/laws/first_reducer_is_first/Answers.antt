@@ -1,0 +1,5 @@
+use Rattle.ct_reduce.proofs.Searching.{first_is_first}
+use Rattle.ct_reduce.proofs.laws.first_reducer_is_first.Goals as goal
+
+pub returns : goal.returns
+returns c = first_is_first

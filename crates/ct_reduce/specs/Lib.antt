@@ -1,0 +1,4 @@
+pub mod Membership
+pub mod Reduction
+pub mod ReductionLaws
+pub mod Views
