@@ -13,6 +13,8 @@ mod reduced;
 mod reduction;
 mod search;
 mod step;
+#[cfg(test)]
+mod tests;
 
 pub use reduced::Reduced;
 pub use reduction::left_reduce;
