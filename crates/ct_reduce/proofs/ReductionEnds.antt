@@ -1,14 +1,14 @@
 -- Each step takes the greatest reducible monomial away, so a reduction ends. Main lemmas `falls`, `reduction_is`: the
 -- symbols before a generator have the monomial that is reduced for their leading monomial, so at it the difference is zero,
 -- and above it nothing changes but by a factor. Cited by `ReductionMeans` and by the loop of the code.
-use Rattle.std.specs.Prelude.{◌≡◌, ◌≢◌, suc, ◌<◌, None, Some, Ok, List, ◌∷◌, ◌⊎◌, refl, T}
+use Rattle.std.specs.Prelude.{◌≡◌, ◌<◌, None, Some, Ok, List, ◌∷◌, refl, T}
 use Rattle.std.proofs.Common.{Option, sym, ◌∙◌, ap, ap₂, subst, arith, inl, inr, Ordering, Less, Equal, Greater}
 use Rattle.ct_algebra.specs.Ring.{mul_zero, one_mul}
-use Rattle.ct_algebra.specs.Terms.{IsCanonical, value_at, is_less}
+use Rattle.ct_algebra.specs.Terms.{IsCanonical, is_less}
 use Rattle.ct_algebra.specs.Laws.Terms.{at_head, at_below, AllBelow_trans}
 use Rattle.ct_algebra.specs.Sums.{at}
 use Rattle.ct_algebra.specs.Leading.{leading, OperatorLeads}
-use Rattle.ct_algebra.specs.Monomial.{Mono, monomials, mono_cmp, mono_tied, mono_turned_back, ◌·◌}
+use Rattle.ct_algebra.specs.Monomial.{Mono, monomials, mono_cmp, mono_tied, mono_turned_back}
 use Rattle.ct_algebra.specs.Names.{Name}
 use Rattle.ct_algebra.specs.Polynomial.{Polynomial, polys, plus, plus_is, times, times_is}
 use Rattle.ct_algebra.specs.Actions.{Action}
@@ -20,12 +20,12 @@ use Rattle.ct_algebra.proofs.OperatorTerms.{at-multiple}
 use Rattle.ct_algebra.proofs.ProductRule.{multiple-one_term}
 use Rattle.ct_algebra.proofs.ShiftedLeading.{shifted_leads}
 use Rattle.ct_mono.specs.Loop.{Falls, run_is}
-use Rattle.ct_mono.specs.Rank.{mono_rank, rank-less}
+use Rattle.ct_mono.specs.Rank.{rank-less}
 use Rattle.ct_poly.specs.Division.{quotient}
 use Rattle.ct_poly.proofs.DivisionLaws.{quotient_is}
 use Rattle.ct_reduce.specs.Membership.{Reduction}
-use Rattle.ct_reduce.specs.Reduction.{Reducible, leading_coefficient, factor_for, share_for, step_for, greatest_reducible, first_reducer, checked_step, reducible_rank, reduction_rank, reduction_from, reduction_turn}
-use Rattle.ct_reduce.proofs.Searching.{value, IsDone, Found, found, Stands, stands, over_leading_some}
+use Rattle.ct_reduce.specs.Reduction.{Reducible, leading_coefficient, factor_for, share_for, greatest_reducible, first_reducer, checked_step, reducible_rank, reduction_rank, reduction_from, reduction_turn}
+use Rattle.ct_reduce.proofs.Searching.{value, IsDone, Found, found, stands, over_leading_some}
 use Rattle.ct_reduce.proofs.StepValues.{moved, step_is}
 
 -- ---- polynomials

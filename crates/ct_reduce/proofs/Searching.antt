@@ -1,7 +1,6 @@
 -- What the search finds. Main lemmas `first_reducer_is_first`, `found`, `nothing_found`, `greatest_is_greatest`: the terms
 -- fall, so the first term with a reducer has the greatest monomial. Cited by `ReductionEnds` and the laws.
 use Rattle.std.specs.Prelude.{◌≡◌, ◌≢◌, ℕ, zero, suc, ◌+◌, ◌<◌, None, Some, List, [], ◌∷◌, ◌⊎◌, refl, length, get_or, MatchOption, T}
-use Rattle.std.specs.List.{slice_index_or}
 use Rattle.std.proofs.Common.{Option, sym, ◌∙◌, ap, arith, subst, inl, inr, Ordering, Less, Equal, Greater}
 use Rattle.ct_algebra.specs.Group.{zero_add}
 use Rattle.ct_algebra.specs.Terms.{AllBelow, IsCanonical, value_at, by_order, is_less}
@@ -12,7 +11,7 @@ use Rattle.ct_algebra.specs.Monomial.{Mono, monomials, mono_cmp, mono_tied, mono
 use Rattle.ct_algebra.specs.Polynomial.{Polynomial, polys}
 use Rattle.ct_algebra.specs.Operators.{Operator, polynomial_at, no_operator}
 use Rattle.ct_algebra.proofs.LeadingTerms.{leading-Leads, Leads-leading}
-use Rattle.ct_mono.specs.Division.{over, over_is, over_none, over-·, Divides}
+use Rattle.ct_mono.specs.Division.{over_is, over_none}
 use Rattle.ct_reduce.specs.Membership.{Reduction, LeadingDivides, IsIrreducible, IsReduced}
 use Rattle.ct_reduce.specs.Reduction.{Reducer, Reducible, or_later, over_leading, reducer_by, first_reducer_from, first_reducer, reducible_by, first_reducible, greatest_reducible}
 use Rattle.ct_reduce.specs.ReductionLaws.{IsFirstReducer, IsGreatestReducible}

@@ -1,7 +1,7 @@
 -- What one step makes of a reduction, by the exact operations. Main lemma `step_is`: where a checked step has a value, all
 -- is multiplied by the plan's factor, and then the part's product is taken from the rest. Cited by the laws of steps.
-use Rattle.std.specs.Prelude.{◌≡◌, ℕ, ◌+◌, Ok, Err, List, [], ◌∷◌, ◌++◌, map, cond, refl, Bool, true, false, ◌↔◌, IsTrue, get_or, length}
-use Rattle.std.proofs.Common.{Result, sym, ◌∙◌, ap, subst, append_assoc, append-nil}
+use Rattle.std.specs.Prelude.{◌≡◌, Ok, List, [], ◌∷◌, ◌++◌, map, cond, refl, Bool, true, false, ◌↔◌, IsTrue, get_or}
+use Rattle.std.proofs.Common.{sym, ◌∙◌, ap, subst, append_assoc, append-nil}
 use lib.ListN.{set}
 use Rattle.ct_algebra.specs.Group.{neg_unique, neg_neg}
 use Rattle.ct_algebra.specs.Ring.{one_mul}
@@ -12,7 +12,7 @@ use Rattle.ct_algebra.specs.Actions.{Action}
 use Rattle.ct_algebra.specs.Operators.{Operator, sum_of_operators, negative, term_of, no_operator, product_of, multiple}
 use Rattle.ct_algebra.proofs.AppliedOperators.{multiple-one}
 use Rattle.ct_algebra.proofs.ProductRule.{product_of-polynomial}
-use Rattle.ct_mono.specs.Checked.{Checked, ◌>>=◌, verdict_ok, both_fit}
+use Rattle.ct_mono.specs.Checked.{verdict_ok, both_fit}
 use Rattle.ct_poly.specs.Measures.{checked_times, product_overflow}
 use Rattle.ct_ore.specs.Measures.{checked_sum, checked_difference, difference_of_operators, checked_product, sum_overflow}
 use Rattle.ct_ore.specs.Measures as operators

@@ -11,7 +11,7 @@ use Rattle.ct_algebra.specs.Domain.{product_nonzero}
 use Rattle.ct_algebra.specs.Leading.{leading}
 use Rattle.ct_algebra.specs.Monomial.{Mono, monomials}
 use Rattle.ct_algebra.specs.Names.{Name}
-use Rattle.ct_algebra.specs.Polynomial.{Polynomial, polys, polys_domain, times, times_is}
+use Rattle.ct_algebra.specs.Polynomial.{Polynomial, polys, polys_domain, times_is}
 use Rattle.ct_algebra.specs.Actions.{Action}
 use Rattle.ct_algebra.specs.Operators.{Operator, operator_group, no_operator, sum_of_operators, negative, product_of, product_of-sum_left, multiple, combination}
 use Rattle.ct_algebra.proofs.OperatorTerms.{sums_are, none_is, negatives_are}
@@ -19,7 +19,7 @@ use Rattle.ct_algebra.proofs.AppliedOperators.{multiple-sum, multiple-multiple, 
 use Rattle.ct_reduce.specs.Membership.{Reduction, IsMember, ReducesTo}
 use Rattle.ct_reduce.specs.Reduction.{Reducible, Step, leading_coefficient, factor_for, step_for, no_cofactors, start, checked_step, greatest_reducible}
 use Rattle.ct_reduce.proofs.Searching.{found, found_is_first}
-use Rattle.ct_reduce.proofs.StepValues.{Multiplied, Taken, moved, Stepped, step_is}
+use Rattle.ct_reduce.proofs.StepValues.{Multiplied, Taken, moved, step_is}
 
 -- ---- sums of operators
 

@@ -1,9 +1,9 @@
 -- One turn of the loop, as the code makes it. Main lemmas `turned`, `place_known`: the rest of the reduction stays the same,
 -- the rank falls, and there are as many cofactors as before, so that the next step finds its own.
-use Rattle.std.specs.Prelude.{◌≡◌, ◌<◌, Ok, Some, List, length, get_or, map}
+use Rattle.std.specs.Prelude.{◌≡◌, ◌<◌, Ok, Some, List, length}
 use Rattle.std.proofs.Common.{sym, ◌∙◌, ap, arith}
 use Rattle.std.proofs.lemmas.List.{length-map}
-use lib.ListN.{set, length-set}
+use lib.ListN.{length-set}
 use Rattle.ct_algebra.specs.Names.{Name}
 use Rattle.ct_algebra.specs.Actions.{Action}
 use Rattle.ct_algebra.specs.Operators.{Operator, multiple}
