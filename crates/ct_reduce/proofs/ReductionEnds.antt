@@ -60,13 +60,13 @@ leads_at p m c leads =
     )
 
 module _ (a : Name → Action) where
-  balanced :
+  pub balanced :
       (c l : Polynomial) (o : Option Polynomial) → quotient c l ≡ o → times (factor_for l o) c ≡ times (share_for c o) l
   balanced c l None is = times_comm l c
   balanced c l (Some q) is = one_times c ∙ sym (quotient_is c l q is)
 
   -- the symbols before the generator are led by the monomial that is reduced
-  moved_leads :
+  pub moved_leads :
       (generators : List Operator) (h : Reducible) → first_reducer h.mono generators ≡ Some h.reducer →
       (d : Polynomial) × OperatorLeads (moved a h) h.mono d
   moved_leads generators h reduces =

@@ -1,5 +1,5 @@
 // The laws of left reduction, as functions with no code.
-ghost use Rattle.ct_reduce.specs.ReductionLaws.{FirstReducerIsFirst, GreatestReducibleIsGreatest, EachStepFalls, ReductionGoesByTurns, RestZeroIsMember};
+ghost use Rattle.ct_reduce.specs.ReductionLaws.{FirstReducerIsFirst, GreatestReducibleIsGreatest, EachStepIsExact, EachStepFalls, ReductionGoesByTurns, RestZeroIsMember};
 
 /// The reducer of a monomial is the first generator whose leading monomial divides it; where there is none,
 /// no leading monomial does.
@@ -11,6 +11,11 @@ pub fn first_reducer_is_first()
 /// rest is reduced.
 pub fn greatest_reducible_is_greatest()
     ensures { GreatestReducibleIsGreatest }
+{}
+
+/// A step multiplies all by a factor, so that a multiple of the generator takes the monomial away exactly.
+pub fn each_step_is_exact()
+    ensures { EachStepIsExact }
 {}
 
 /// Each step makes the monomial that is reduced next fall, so a reduction ends.
