@@ -1,10 +1,11 @@
 // One step of a reduction.
-ghost use Rattle.std.specs.Prelude.{◌≡◌, ◌<◌, ◌++◌, ◌∷◌, [], IfOk, OnOk, length};
+ghost use Rattle.std.specs.Prelude.{◌≡◌, ◌≢◌, ◌<◌, ◌++◌, ◌∷◌, [], IfOk, OnOk, length};
 ghost use Rattle.ct_algebra.specs.Leading.{leading};
 ghost use Rattle.ct_algebra.specs.Polynomial.{polys};
 ghost use Rattle.ct_mono.specs.Checked.{AnswersBy};
+ghost use Rattle.ct_poly.specs.Division.{quotient};
 ghost use Rattle.ct_ore.specs.Naming.{actions_of};
-ghost use Rattle.ct_reduce.specs.Reduction.{leading_coefficient, is_one, checked_plan, checked_multiples, checked_multiplied, multiplied_unless_one, checked_taken};
+ghost use Rattle.ct_reduce.specs.Reduction.{leading_coefficient, factor_for, share_for, is_one, checked_plan, checked_multiples, checked_multiplied, multiplied_unless_one, checked_taken};
 ghost use Rattle.ct_reduce.specs.Views.{reduction_of, reducible_of, step_of};
 
 use crate::reduced::Reduced;
@@ -36,28 +37,25 @@ pub(crate) fn plan<'a>(
     let symbols = Op::of_term(alloc, one(alloc)?, &reducer.symbols)?;
     let moved = symbols.mul(alloc, algebra, reducer.generator)?;
     let leading = leading_coefficient(alloc, &moved)?;
-    let quotient = reducible.term.coef.quotient(alloc, &leading)?;
+    let (factor, share) = factor_and_share(alloc, &reducible.term.coef, leading)?;
+    let part = Op::of_term(alloc, share, &reducer.symbols)?;
+    Ok(Step {
+        factor,
+        part,
+        place: reducer.place,
+        generator: reducer.generator,
+    })
+}
+
+// What all is multiplied by, and what stands before the symbols in the part that is taken.
+fn factor_and_share(alloc: Global, coef: &Poly, leading: Poly) -> Result<(Poly, Poly), NoMemory>
+    requires { leading ≢ polys.zero }
+    ensures { IfOk result (λ r. (r.0 ≡ factor_for leading (quotient coef.now leading)) × (r.1 ≡ share_for coef.now (quotient coef.now leading))) }
+{
+    let quotient = coef.quotient(alloc, &leading)?;
     match quotient {
-        Some(share) => {
-            let factor = one(alloc)?;
-            let part = Op::of_term(alloc, share, &reducer.symbols)?;
-            Ok(Step {
-                factor,
-                part,
-                place: reducer.place,
-                generator: reducer.generator,
-            })
-        }
-        None => {
-            let share = reducible.term.coef.copy(alloc)?;
-            let part = Op::of_term(alloc, share, &reducer.symbols)?;
-            Ok(Step {
-                factor: leading,
-                part,
-                place: reducer.place,
-                generator: reducer.generator,
-            })
-        }
+        Some(share) => Ok((one(alloc)?, share)),
+        None => Ok((leading, coef.copy(alloc)?)),
     }
 }
 

@@ -160,6 +160,37 @@ fn each_generator_takes_its_monomials(rt: HostRuntime) -> Result<(), Fail> {
 }
 
 #[test]
+fn steps_follow_each_other(rt: HostRuntime) -> Result<(), Fail> {
+    let algebra = shift_and_derivation(rt.alloc())?;
+    let generators = two_generators(rt.alloc(), &algebra)?;
+    let shift = Op::symbol(rt.alloc(), 0)?;
+    let derivation = Op::symbol(rt.alloc(), 1)?;
+    let one = number(rt.alloc(), 1)?;
+    let square = derivation.mul(rt.alloc(), &algebra, &derivation)?;
+    let op = square
+        .mul(rt.alloc(), &algebra, &shift)?
+        .add(rt.alloc(), &shift)?
+        .add(rt.alloc(), &one)?;
+    let r = left_reduce(rt.alloc(), &algebra, &op, generators.as_slice())?;
+    assert!(rt;
+        is_reduction(
+            rt.alloc(),
+            r,
+            &[(0, 0, 1, 1, 1)],
+            &[(0, 2, 0, 1, 1), (0, 0, 0, 1, 1)],
+            &[(0, 1, 0, 1, 1), (0, 0, 1, 0, 1), (0, 0, 0, 0, 1)],
+            &[
+                (0, 0, 2, 0, 1),
+                (0, 0, 1, 1, 1),
+                (0, 0, 0, 2, 1),
+                (0, 0, 1, 0, 1)
+            ]
+        )?
+    );
+    Ok(())
+}
+
+#[test]
 fn the_first_generator_serves_and_exact_quotients_are_taken(rt: HostRuntime) -> Result<(), Fail> {
     let algebra = shift_and_derivation(rt.alloc())?;
     let derivation = Op::symbol(rt.alloc(), 1)?;
