@@ -6,7 +6,7 @@ use Rattle.std.proofs.lemmas.Bool.{eqb-false}
 use Rattle.std.specs.Int.{◌∣◌, IsGcd}
 use Rattle.std.proofs.lemmas.List.Sums.{sum_by-cons}
 use Rattle.std.proofs.lemmas.Nat.Gcd.{le_of_dvd, dvd_refl, dvd_trans, dvd-zero, dvd_of_mod-eq-zero, mod-eq-zero_of_dvd}
-use Rattle.std.proofs.Math.Nat.{eq-zero_of_zero-dvd}
+use Rattle.std.proofs.Math.Nat.{eq-zero_of_zero-dvd, eq-one_of_dvd-one, one-dvd}
 use Rattle.ct_algebra.specs.Laws.Terms.{not_zero}
 use Rattle.ct_algebra.specs.Monomial.{Mono, monomials}
 use Rattle.ct_algebra.specs.Terms.{IsCanonical}
@@ -141,3 +141,17 @@ pub gathered_all : {ts rest : List Term} {g : ℕ} → length rest ≡ 0 → IsG
 gathered_all {ts} {rest} {g} empty before d =
     let end : IsGathering ts g [] = subst (IsGathering ts g) (no_length rest empty) before in
     (λ divides. (end.same d).0 (divides, tt), λ all. ((end.same d).1 all).0)
+
+-- once no divisor but 1 is left, the rest of the coefficients changes nothing
+pub gathered_to_one : {ts rest : List Term} {g : ℕ} → g ≡ 1 → IsGathering ts g rest → IsContentOf (entries ts) 1
+gathered_to_one {ts} {rest} {g} one before d = (
+  λ divides. (before.same d).0 (
+    subst (λ n. d ∣ n) (sym one) divides,
+    subst (λ n. DividesAll n (entries rest)) (sym (eq-one_of_dvd-one divides)) (one_divides rest),
+  ),
+  λ all. subst (λ n. d ∣ n) one ((before.same d).1 all).0,
+)
+  where
+    one_divides : (ts : List Term) → DividesAll 1 (entries ts)
+    one_divides [] = tt
+    one_divides (t ∷ ts) = (one-dvd (unsigned_abs t.coef), one_divides ts)

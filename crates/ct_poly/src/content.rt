@@ -19,6 +19,9 @@ pub(crate) fn content_of_terms(ts: &[Term]) -> u128
     let mut rest = ts;
     'gathering: while let Some((t, more)) = rest.split_first() {
         divisor = gcd(t.coef.unsigned_abs(), divisor);
+        if divisor == 1 {
+            return 1;
+        }
         rest = more;
     }
     divisor

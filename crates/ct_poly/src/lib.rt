@@ -3,9 +3,10 @@
 //! A `Poly` is seen as a finite map from monomials to nonzero whole numbers. It has at most `MOST_TERMS`
 //! terms, and its norm, the sum of the absolute values of its coefficients, is at most `LARGEST_NORM`.
 //!
-//! A call that can overflow answers the checked computation of `specs/Measures.antt`: the exact value, or
-//! the kind of the first limit that the measures of its operands could pass. The exact values are those
-//! of ct_algebra. Names are given as numbers below six.
+//! A call that can overflow answers the checked computation of `specs/Measures.antt` or
+//! `specs/Division.antt`: the exact value, or the kind of the first limit that the measures of its operands
+//! could pass. The exact values are those of ct_algebra; contents and the order of polynomials are defined
+//! in `specs/`. Names are given as numbers below six.
 #![tactic(auto)]
 
 mod accumulation;

@@ -1,7 +1,7 @@
 use Rattle.std.proofs.Common.{◌≡◌, unsigned_abs, FitsSigned, rules}
 use Rattle.std.specs.Int.{w128}
 use Rattle.std.proofs.lemmas.Int.{to_z-of_z}
-use Rattle.ct_poly.proofs.Contents.{gathering_start, gathered, gathered_all}
+use Rattle.ct_poly.proofs.Contents.{gathering_start, gathered, gathered_all, gathered_to_one}
 use Rattle.ct_poly.proofs.content.content_of_terms.Goals as goal
 
 pub gathering-init : goal.gathering-init
@@ -15,3 +15,10 @@ gathering-preserved c =
 
 pub returns : goal.returns
 returns c = gathered_all c.in_default.ensures.cases c.gathering.invariant
+
+pub returns-then-divisor-eq1 : goal.returns-then-divisor-eq1
+returns-then-divisor-eq1 c =
+    let fits : FitsSigned w128 c.in-Some.t.now.coef = search rules in
+    let size : c.unsigned_abs.result ≡ unsigned_abs c.in-Some.t.now.coef = simp to_z-of_z at c.unsigned_abs.ensures.value in
+    let one : c.gcd-divisor.result ≡ 1 = search rules in
+    gathered_to_one one (gathered c.in-Some.ensures.cases.0 size c.gcd-divisor.ensures c.gathering.invariant)
