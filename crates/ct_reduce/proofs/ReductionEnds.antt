@@ -25,7 +25,8 @@ use Rattle.ct_poly.specs.Division.{quotient}
 use Rattle.ct_poly.proofs.DivisionLaws.{quotient_is}
 use Rattle.ct_reduce.specs.Membership.{Reduction}
 use Rattle.ct_reduce.specs.Reduction.{Reducible, leading_coefficient, factor_for, share_for, greatest_reducible, first_reducer, checked_step, reducible_rank, reduction_rank, reduction_from, reduction_turn}
-use Rattle.ct_reduce.proofs.Searching.{value, IsDone, Found, found, stands, over_leading_some}
+use Rattle.ct_reduce.proofs.FirstReducers.{stands, over_leading_some}
+use Rattle.ct_reduce.proofs.Searching.{value, IsDone, Found, found}
 use Rattle.ct_reduce.proofs.StepValues.{moved, step_is}
 
 -- ---- polynomials

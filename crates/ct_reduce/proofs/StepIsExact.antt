@@ -13,7 +13,8 @@ use Rattle.ct_algebra.proofs.LeadingTerms.{leading-Leads}
 use Rattle.ct_poly.specs.Division.{quotient}
 use Rattle.ct_reduce.specs.Reduction.{leading_coefficient, factor_for, share_for, first_reducer}
 use Rattle.ct_reduce.specs.ReductionLaws.{EachStepIsExact}
-use Rattle.ct_reduce.proofs.Searching.{found, found_is_first}
+use Rattle.ct_reduce.proofs.FirstReducers.{found_is_first}
+use Rattle.ct_reduce.proofs.Searching.{found}
 use Rattle.ct_reduce.proofs.StepValues.{moved, Stepped, step_is}
 use Rattle.ct_reduce.proofs.ReductionEnds.{moved_leads, balanced}
 

@@ -18,7 +18,8 @@ use Rattle.ct_algebra.proofs.OperatorTerms.{sums_are, none_is, negatives_are}
 use Rattle.ct_algebra.proofs.AppliedOperators.{multiple-sum, multiple-multiple, multiple-one, multiple-product_of, multiple-no_operator, no_operator-product_of}
 use Rattle.ct_reduce.specs.Membership.{Reduction, IsMember, ReducesTo}
 use Rattle.ct_reduce.specs.Reduction.{Reducible, Step, leading_coefficient, factor_for, step_for, no_cofactors, start, checked_step, greatest_reducible}
-use Rattle.ct_reduce.proofs.Searching.{found, found_is_first}
+use Rattle.ct_reduce.proofs.FirstReducers.{found_is_first}
+use Rattle.ct_reduce.proofs.Searching.{found}
 use Rattle.ct_reduce.proofs.StepValues.{Multiplied, Taken, moved, step_is}
 
 -- ---- sums of operators

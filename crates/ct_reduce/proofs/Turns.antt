@@ -11,7 +11,8 @@ use Rattle.ct_mono.specs.Checked.{◌>>=◌}
 use Rattle.ct_mono.specs.Loop.{turn}
 use Rattle.ct_reduce.specs.Membership.{Reduction}
 use Rattle.ct_reduce.specs.Reduction.{Reducible, Step, greatest_reducible, checked_plan, multiplied_unless_one, checked_taken, checked_step, reduction_rank, reduction_from, reduction_turn}
-use Rattle.ct_reduce.proofs.Searching.{found, found_is_first}
+use Rattle.ct_reduce.proofs.FirstReducers.{found_is_first}
+use Rattle.ct_reduce.proofs.Searching.{found}
 use Rattle.ct_reduce.proofs.StepValues.{unless_one_is, taken_is, plan_is}
 use Rattle.ct_reduce.proofs.ReductionEnds.{falls, reduction_is}
 

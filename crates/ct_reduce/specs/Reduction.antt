@@ -7,7 +7,7 @@
 --     checked_plan           τ∘g, and the step that it asks for
 --     checked_multiplied     the rest, the scale and the cofactors in order, times a polynomial from the left
 --     checked_taken          the part's product with the generator is taken from the rest, and the part added to the cofactor
---     checked_reduction a gs p     all steps, from the scale 1, no cofactors and the rest p
+--     checked_reduction a gs p     all steps, from the scale 1, cofactors 0 and the rest p
 -- Where the leading coefficient l of τ∘g divides the coefficient, the factor is 1 and a' the quotient; else the factor is l,
 -- and a' the coefficient. A division that overflows counts as not dividing. A polynomial times an operator is the product of
 -- operators. What the search finds and what a reduction shows is said once more by ReductionLaws and Membership.
