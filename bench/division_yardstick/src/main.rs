@@ -1,0 +1,179 @@
+//! Products and exact divisions of polynomials in plain Rust, with the same words as `bench_division`: terms in falling
+//! order, products by halves that are merged, divisions whose rest is merged with a multiple of the divisor. With
+//! `copying` in place of `divide`, each step of a division copies the rest and makes the multiple as a list first.
+use std::cmp::Ordering;
+
+#[derive(Clone, Copy, PartialEq, Eq)]
+struct Term {
+    mono: [u16; 6],
+    coef: i128,
+}
+
+type Poly = Vec<Term>;
+
+fn total(m: &[u16; 6]) -> u16 {
+    m.iter().sum()
+}
+
+fn compare(m: &[u16; 6], n: &[u16; 6]) -> Ordering {
+    total(m).cmp(&total(n)).then_with(|| m.cmp(n))
+}
+
+fn times(m: &[u16; 6], n: &[u16; 6]) -> [u16; 6] {
+    std::array::from_fn(|i| m[i] + n[i])
+}
+
+fn over(m: &[u16; 6], n: &[u16; 6]) -> Option<[u16; 6]> {
+    if m.iter().zip(n).any(|(a, b)| a < b) {
+        return None;
+    }
+    Some(std::array::from_fn(|i| m[i] - n[i]))
+}
+
+fn norm(p: &[Term]) -> u128 {
+    p.iter().map(|t| t.coef.unsigned_abs()).sum()
+}
+
+fn sum(mut p: &[Term], mut q: &[Term]) -> Poly {
+    let mut out = Vec::with_capacity(p.len() + q.len());
+    while let (Some((a, p_rest)), Some((b, q_rest))) = (p.split_first(), q.split_first()) {
+        match compare(&a.mono, &b.mono) {
+            Ordering::Greater => {
+                out.push(*a);
+                p = p_rest;
+            }
+            Ordering::Less => {
+                out.push(*b);
+                q = q_rest;
+            }
+            Ordering::Equal => {
+                let coef = a.coef + b.coef;
+                if coef != 0 {
+                    out.push(Term { mono: a.mono, coef });
+                }
+                p = p_rest;
+                q = q_rest;
+            }
+        }
+    }
+    out.extend_from_slice(p);
+    out.extend_from_slice(q);
+    out
+}
+
+fn multiple(t: &Term, p: &[Term]) -> Poly {
+    p.iter()
+        .map(|u| Term { mono: times(&t.mono, &u.mono), coef: t.coef * u.coef })
+        .collect()
+}
+
+fn by_halves(p: &[Term], q: &[Term]) -> Poly {
+    match p {
+        [] => Vec::new(),
+        [t] => multiple(t, q),
+        _ => {
+            let (front, back) = p.split_at(p.len() / 2);
+            sum(&by_halves(front, q), &by_halves(back, q))
+        }
+    }
+}
+
+fn product(p: &[Term], q: &[Term]) -> Poly {
+    if p.len() <= q.len() { by_halves(p, q) } else { by_halves(q, p) }
+}
+
+/// A list and a term times another list, merged.
+fn with_multiple(mut p: &[Term], t: &Term, q: &[Term]) -> Poly {
+    let mut out = Vec::with_capacity(p.len() + q.len());
+    for u in q {
+        let made = Term { mono: times(&t.mono, &u.mono), coef: t.coef * u.coef };
+        loop {
+            match p.split_first() {
+                Some((a, rest)) => match compare(&a.mono, &made.mono) {
+                    Ordering::Greater => {
+                        out.push(*a);
+                        p = rest;
+                    }
+                    Ordering::Equal => {
+                        let coef = a.coef + made.coef;
+                        if coef != 0 {
+                            out.push(Term { mono: a.mono, coef });
+                        }
+                        p = rest;
+                        break;
+                    }
+                    Ordering::Less => {
+                        out.push(made);
+                        break;
+                    }
+                },
+                None => {
+                    out.push(made);
+                    break;
+                }
+            }
+        }
+    }
+    out.extend_from_slice(p);
+    out
+}
+
+const LARGEST: u128 = i128::MAX as u128;
+
+fn divide(p: &[Term], f: &[Term], copies: bool) -> Option<Poly> {
+    let f_norm = norm(f);
+    let mut rest = p.to_vec();
+    let mut quotient = Poly::new();
+    let mut quotient_norm = 0u128;
+    while let Some(top) = rest.first().copied() {
+        let mono = over(&top.mono, &f[0].mono)?;
+        if top.coef % f[0].coef != 0 {
+            return None;
+        }
+        let u = Term { mono, coef: top.coef / f[0].coef };
+        let size = u.coef.unsigned_abs();
+        let made = size.saturating_mul(f_norm);
+        if rest.len() + f.len() > 1 << 20 || made > LARGEST || norm(&rest) + made > LARGEST {
+            return None;
+        }
+        let negative = Term { mono, coef: -u.coef };
+        rest = if copies {
+            let copy = rest.clone();
+            sum(&copy, &multiple(&negative, f))
+        } else {
+            with_multiple(&rest[1..], &negative, &f[1..])
+        };
+        quotient.push(u);
+        quotient_norm += size;
+    }
+    (quotient_norm <= LARGEST).then_some(quotient)
+}
+
+fn form(a: i128, b: i128, c: i128) -> Poly {
+    let name = |i: usize, coef| Term { mono: std::array::from_fn(|j| u16::from(i == j)), coef };
+    vec![name(0, a), name(1, b), name(2, c), Term { mono: [0; 6], coef: 1 }]
+}
+
+fn power(base: &[Term], n: u64) -> Poly {
+    (0..n).fold(vec![Term { mono: [0; 6], coef: 1 }], |so_far, _| product(&so_far, base))
+}
+
+fn main() {
+    let words: Vec<String> = std::env::args().skip(1).collect();
+    let number = |i: usize, default: u64| words.get(i).and_then(|w| w.parse().ok()).unwrap_or(default);
+    let mode = words.first().map_or("divide", |w| w.as_str());
+    let p = power(&form(1, 1, 1), number(1, 3));
+    let q = power(&form(1, 2, 3), number(2, 2));
+    let whole = product(&p, &q);
+    let mut found = None;
+    for _ in 0..number(3, 1) {
+        found = match mode {
+            "multiply" => Some(product(&p, &q)),
+            mode => divide(&whole, &q, mode == "copying"),
+        };
+    }
+    match found {
+        Some(found) => println!("{} terms, norm {}", found.len(), norm(&found)),
+        None => println!("no quotient"),
+    }
+}
