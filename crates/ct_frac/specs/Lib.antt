@@ -1,0 +1,5 @@
+pub mod Written
+pub mod Divisors
+pub mod Normal
+pub mod Arithmetic
+pub mod Symbols
