@@ -1,0 +1,11 @@
+pub mod CommonDivisors
+pub mod Quotients
+pub mod Products
+pub mod Denominators
+pub mod WholeParts
+pub mod NormalLaws
+pub mod Sorting
+pub mod NameFactors
+pub mod QuotientLaws
+pub mod Naming
+pub mod Fractions

@@ -7,7 +7,7 @@
 --     quotient_of n d        n divided by d
 -- A division that overflows counts as one that does not go; so no step here overflows. A list of factors is rising
 -- where each one is put in by `inserted`. The value stays through all of this: `ValueLaws`.
-use Rattle.std.specs.Prelude.{ℕ, zero, suc, ◌+◌, ◌/◌, pos, cond, ltb, None, Some, List, [], ◌∷◌, ◌++◌}
+use Rattle.std.specs.Prelude.{ℕ, zero, suc, ◌+◌, ◌/◌, pos, cond, eqb, None, Some, List, [], ◌∷◌, ◌++◌}
 use Rattle.std.proofs.Common.{Option}
 use Rattle.ct_algebra.specs.Monomial.{Mono, exp, unit}
 use Rattle.ct_algebra.specs.Names.{name_with}
@@ -18,15 +18,11 @@ use Rattle.ct_poly.specs.Content.{content, common_monomial, is_negative, primiti
 use Rattle.ct_poly.specs.Division.{quotient}
 use Rattle.ct_poly.specs.Order.{poly_cmp}
 use Rattle.ct_frac.specs.declared.factor.Factor.{Factor}
+use Rattle.ct_frac.specs.declared.left.Left.{Left}
 use Rattle.ct_frac.specs.Divisors.{greatest_common}
 use Rattle.ct_frac.specs.Written.{Denominator, Written, whole_polynomial}
 
 -- ---- Normal
-
--- what is left of a numerator and of an exponent
-pub record Left : Type 0 where
-  pub numerator : Polynomial
-  pub exponent : ℕ
 
 abbrev pub on_quotient : {X : Type 0} → Option Polynomial → X → (Polynomial → X) → X
 on_quotient None x f = x
@@ -83,7 +79,7 @@ names_from (suc left) i m = with_exponent (name (name_with i)) (exp m i) (names_
 
 -- a polynomial that is not constant, as a factor
 abbrev pub unless_constant : Polynomial → List Factor
-unless_constant p = cond (ltb 0 (degree p)) (record { poly = p; exp = 1 } ∷ []) []
+unless_constant p = cond (eqb (degree p) 0) [] (record { poly = p; exp = 1 } ∷ [])
 
 unfoldable pub factors_of : Polynomial → List Factor
 factors_of d = sorted_onto [] (names_from 6 0 (common_monomial d) ++ unless_constant (primitive_part d))

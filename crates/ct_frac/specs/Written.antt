@@ -8,10 +8,11 @@
 --     value w                the numerator over the denominator multiplied out, in the field of fractions
 -- Factors need not be irreducible, and one of them may still divide the numerator: so one value is written in several
 -- ways. The value alone is that of the field operations (`ValueLaws`).
-use Rattle.std.specs.Prelude.{◌≡◌, ℕ, zero, suc, ◌<◌, ◌≤◌, false, pos, List, [], ◌∷◌}
+use Rattle.std.specs.Prelude.{◌≡◌, refl, ℕ, zero, suc, ◌<◌, ◌≤◌, false, pos, List, [], ◌∷◌}
+use Rattle.std.specs.Coded.{Coded, code_by, coded×, coded_ℕ, coded_list}
 use Rattle.std.proofs.Common.{Less}
 use Rattle.std.specs.Int.{IsGcd}
-use Rattle.ct_algebra.specs.Polynomial.{Polynomial, polys, polys_domain, times, degree}
+use Rattle.ct_algebra.specs.Polynomial.{Polynomial, poly_code, polys, polys_domain, times, degree}
 use Rattle.ct_algebra.specs.Substitution.{number}
 use Rattle.ct_algebra.specs.Field.{K}
 use Rattle.ct_algebra.specs.FieldLaws.{embedded}
@@ -28,6 +29,20 @@ pub record Denominator : Type 0 where
 pub record Written : Type 0 where
   pub numerator : Polynomial
   pub den : Denominator
+
+-- their codes, for types that are seen as these
+abbrev pub factor_code : Coded Factor
+factor_code = code_by (Polynomial × ℕ) (coded× poly_code coded_ℕ) (λ f. (f.poly, f.exp)) (λ p. record { poly = p.0; exp = p.1 }) (λ _. refl)
+
+abbrev pub denominator_code : Coded Denominator
+denominator_code =
+    code_by (ℕ × List Factor) (coded× coded_ℕ (coded_list factor_code)) (λ d. (d.whole, d.factors))
+    (λ p. record { whole = p.0; factors = p.1 }) (λ _. refl)
+
+abbrev pub written_code : Coded Written
+written_code =
+    code_by (Polynomial × Denominator) (coded× poly_code denominator_code) (λ w. (w.numerator, w.den))
+    (λ p. record { numerator = p.0; den = p.1 }) (λ _. refl)
 
 -- ---- which are written forms
 

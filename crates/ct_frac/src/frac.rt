@@ -1,0 +1,109 @@
+// Written fractions.
+ghost use Rattle.std.specs.Prelude.{◌≡◌, ◌≢◌, ◌↔◌, IfOk, IsTrue};
+ghost use Rattle.ct_algebra.specs.Field.{field};
+ghost use Rattle.ct_algebra.specs.FieldLaws.{embedded};
+ghost use Rattle.ct_algebra.specs.Polynomial.{polys};
+ghost use Rattle.ct_frac.specs.Written.{IsWritten, whole_polynomial, multiplied_out, value, value_over};
+ghost use Rattle.ct_frac.specs.Normal.{normal, quotient_of};
+ghost use Rattle.ct_frac.specs.Arithmetic.{negative};
+
+use crate::den::Den;
+use crate::normal::brought_to_normal;
+use crate::quotient::divided_by_polynomial;
+use ct_poly::{NoMemory, Poly};
+use std::alloc::Global;
+use std::marker::Model;
+
+/// A fraction as it is written: a numerator over a denominator, with no whole number that divides both.
+#[derive(Drop)]
+pub struct Frac {
+    pub numerator: Poly,
+    pub den: Den,
+}
+
+impl Model for Frac {
+    ghost use Rattle.ct_frac.specs.Written.{Written, written_code, IsWritten};
+
+    ghost Value = { Written };
+
+    ghost coded = { written_code };
+
+    ghost view = { λ f. record { numerator = f.numerator; den = f.den } };
+
+    ghost invariant = { λ f. IsWritten (record { numerator = f.numerator; den = f.den }) };
+}
+
+impl Frac {
+    /// The fraction 0.
+    pub fn zero(alloc: Global) -> Result<Frac, NoMemory>
+        ensures written { IfOk result (λ r. r ≡ whole_polynomial polys.zero) }
+        ensures value { IfOk result (λ r. value r ≡ field.zero) }
+    {
+        Frac::of_poly(alloc, Poly::zero(alloc))
+    }
+
+    /// A polynomial as a fraction.
+    pub fn of_poly(alloc: Global, p: Poly) -> Result<Frac, NoMemory>
+        ensures written { IfOk result (λ r. r ≡ whole_polynomial p) }
+        ensures value { IfOk result (λ r. value r ≡ embedded p) }
+    {
+        Ok(Frac {
+            numerator: p,
+            den: Den::one(alloc),
+        })
+    }
+
+    /// A polynomial over a denominator, where each factor is divided out as often as it goes.
+    pub fn over(alloc: Global, n: Poly, den: &Den) -> Result<Frac, NoMemory>
+        ensures written { IfOk result (λ r. r ≡ normal n den.now) }
+        ensures value { IfOk result (λ r. value r ≡ value_over n (multiplied_out den.now)) }
+    {
+        den.in_written_form();
+        brought_to_normal(alloc, n, den)
+    }
+
+    /// The quotient of two polynomials.
+    pub fn quotient(alloc: Global, n: &Poly, d: &Poly) -> Result<Frac, NoMemory>
+        requires { d.now ≢ polys.zero }
+        ensures written { IfOk result (λ r. r ≡ quotient_of n.now d.now) }
+        ensures value { IfOk result (λ r. value r ≡ value_over n.now d.now) }
+    {
+        divided_by_polynomial(alloc, n, d)
+    }
+
+    pub fn numerator(&self) -> &Poly
+        ensures { result.now ≡ self.now.numerator }
+    {
+        &self.numerator
+    }
+
+    pub fn den(&self) -> &Den
+        ensures { result.now ≡ self.now.den }
+    {
+        &self.den
+    }
+
+    /// Each fraction is in written form.
+    pub fn in_written_form(&self)
+        ensures { IsWritten self.now }
+    {
+        let _ = &self.numerator;
+    }
+
+    pub fn neg(&self, alloc: Global) -> Result<Frac, NoMemory>
+        ensures written { IfOk result (λ r. r ≡ negative self.now) }
+        ensures value { IfOk result (λ r. value r ≡ field.neg (value self.now)) }
+    {
+        self.in_written_form();
+        let numerator = self.numerator().neg(alloc)?;
+        let den = self.den().copy(alloc)?;
+        Ok(Frac { numerator, den })
+    }
+
+    /// Whether both are written in the same way.
+    pub fn same(&self, other: &Frac) -> bool
+        ensures { IsTrue result ↔ (self.now ≡ other.now) }
+    {
+        self.numerator().same(other.numerator()) && self.den().same(other.den())
+    }
+}
