@@ -9,3 +9,10 @@ pub mod NameFactors
 pub mod QuotientLaws
 pub mod Naming
 pub mod Fractions
+pub mod Limits
+pub mod Joining
+pub mod JoinedFactors
+pub mod Exponents
+pub mod Clearing
+pub mod CommonDenominators
+pub mod SumLaws

@@ -28,7 +28,7 @@ AreApart (f ∷ fs) gs = DiffersFrom f.poly gs × AreApart fs gs
 pub turned : (p q : Polynomial) → poly_cmp p q ≡ Greater → poly_cmp q p ≡ Less
 turned p q greater = poly_cmp_total.antisymm q p ∙ ap ordering_reverse greater
 
-IsBelow-trans : (p q : Polynomial) (fs : List Factor) → poly_cmp p q ≡ Less → IsBelow q fs → IsBelow p fs
+pub IsBelow-trans : (p q : Polynomial) (fs : List Factor) → poly_cmp p q ≡ Less → IsBelow q fs → IsBelow p fs
 IsBelow-trans p q [] less below = tt
 IsBelow-trans p q (g ∷ gs) less below = (poly_cmp_total.trans p q g.poly less below.0, IsBelow-trans p q gs less below.1)
 

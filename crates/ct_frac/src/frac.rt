@@ -1,16 +1,20 @@
 // Written fractions.
-ghost use Rattle.std.specs.Prelude.{◌≡◌, ◌≢◌, ◌↔◌, IfOk, IsTrue};
+ghost use Rattle.std.specs.Prelude.{◌≡◌, ◌≢◌, ◌↔◌, IfOk, IsTrue, true};
 ghost use Rattle.ct_algebra.specs.Field.{field};
 ghost use Rattle.ct_algebra.specs.FieldLaws.{embedded};
 ghost use Rattle.ct_algebra.specs.Polynomial.{polys};
-ghost use Rattle.ct_frac.specs.Written.{IsWritten, whole_polynomial, multiplied_out, value, value_over};
+ghost use Rattle.ct_mono.specs.Checked.{Answers};
+ghost use Rattle.ct_frac.specs.Written.{IsWritten, whole_polynomial, multiplied_out, value, value_over, one_den};
 ghost use Rattle.ct_frac.specs.Normal.{normal, quotient_of};
-ghost use Rattle.ct_frac.specs.Arithmetic.{negative};
+ghost use Rattle.ct_frac.specs.Arithmetic.{negative, DividesFactors, checked_common, checked_cleared, checked_sum, checked_difference, checked_product, checked_same_value};
 
+use crate::clear::cleared;
+use crate::common::common_denominator;
 use crate::den::Den;
 use crate::normal::brought_to_normal;
 use crate::quotient::divided_by_polynomial;
-use ct_poly::{NoMemory, Poly};
+use crate::sum::{difference, is_zero_difference, product, sum};
+use ct_poly::{Fault, NoMemory, Poly};
 use std::alloc::Global;
 use std::marker::Model;
 
@@ -105,5 +109,60 @@ impl Frac {
         ensures { IsTrue result ↔ (self.now ≡ other.now) }
     {
         self.numerator().same(other.numerator()) && self.den().same(other.den())
+    }
+
+    pub fn add(&self, alloc: Global, other: &Frac) -> Result<Frac, Fault>
+        ensures answers { Answers (checked_sum self.now other.now) result }
+        ensures value { IfOk result (λ r. value r ≡ field.◌+◌ (value self.now) (value other.now)) }
+    {
+        self.in_written_form();
+        other.in_written_form();
+        sum(alloc, self, other)
+    }
+
+    pub fn sub(&self, alloc: Global, other: &Frac) -> Result<Frac, Fault>
+        ensures answers { Answers (checked_difference self.now other.now) result }
+        ensures value { IfOk result (λ r. value r ≡ field.◌+◌ (value self.now) (field.neg (value other.now))) }
+    {
+        self.in_written_form();
+        other.in_written_form();
+        difference(alloc, self, other)
+    }
+
+    pub fn mul(&self, alloc: Global, other: &Frac) -> Result<Frac, Fault>
+        ensures answers { Answers (checked_product self.now other.now) result }
+        ensures value { IfOk result (λ r. value r ≡ field.◌*◌ (value self.now) (value other.now)) }
+    {
+        self.in_written_form();
+        other.in_written_form();
+        product(alloc, self, other)
+    }
+
+    /// Whether both have one value, however they are written.
+    pub fn same_value(&self, alloc: Global, other: &Frac) -> Result<bool, Fault>
+        ensures answers { Answers (checked_same_value self.now other.now) result }
+        ensures value { IfOk result (λ b. (b ≡ true) ↔ (value self.now ≡ value other.now)) }
+    {
+        self.in_written_form();
+        other.in_written_form();
+        is_zero_difference(alloc, self, other)
+    }
+
+    /// The least denominator that those of all fractions divide.
+    pub fn common(alloc: Global, list: &[Frac]) -> Result<Den, Fault>
+        ensures { Answers (checked_common one_den list.now) result }
+    {
+        common_denominator(alloc, list)
+    }
+
+    /// The numerator over another denominator, which the own one divides.
+    pub fn clear(&self, alloc: Global, den: &Den) -> Result<Poly, Fault>
+        requires { DividesFactors self.now.den den.now }
+        ensures answers { Answers (checked_cleared self.now den.now) result }
+        ensures value { IfOk result (λ n. value_over n (multiplied_out den.now) ≡ value self.now) }
+    {
+        self.in_written_form();
+        den.in_written_form();
+        cleared(alloc, self, den)
     }
 }

@@ -1,6 +1,8 @@
 //! Fractions of polynomials with factored denominators, exact and with exact overflow.
 #![tactic(auto)]
 
+mod clear;
+mod common;
 mod den;
 mod factor;
 mod frac;
@@ -9,6 +11,9 @@ mod left;
 mod normal;
 mod quotient;
 mod same;
+mod sum;
+#[cfg(test)]
+mod tests;
 mod whole;
 
 pub use ct_poly::{Fault, Kind, NoMemory, Poly};

@@ -1,0 +1,15 @@
+use Rattle.std.proofs.Common.{◌*◌, ◌/◌, ap, subst}
+use Rattle.ct_mono.specs.Checked.{Answers}
+use Rattle.ct_frac.specs.Arithmetic.{checked_whole}
+use Rattle.ct_frac.specs.Divisors.{least_common}
+use Rattle.ct_frac.proofs.CommonDivisors.{divisor_positive, greatest_common_only}
+use Rattle.ct_frac.proofs.common.least_common_multiple.Goals as goal
+
+pub nonzero_div-a : goal.nonzero_div-a
+nonzero_div-a c = divisor_positive c.args.a c.args.b c.gcd.result c.requires c.gcd.ensures
+
+pub returns : goal.returns
+unfolding least_common
+returns c =
+    subst (λ g. Answers (checked_whole (c.args.a / g * c.args.b)) c.whole_product.result)
+    (greatest_common_only c.args.a c.args.b c.gcd.result c.requires c.gcd.ensures) c.whole_product.ensures
