@@ -1,20 +1,19 @@
 -- Clearing multiplies the numerator by what the denominator lacks. Main lemmas `cleared_ok` and `wider_ok`: a common
 -- denominator is divided by each part, and the cleared numerator times the part is the numerator times the whole.
-use Rattle.std.specs.Prelude.{◌≡◌, ◌≢◌, refl, ℕ, zero, suc, ◌+◌, ◌-◌, ◌*◌, ◌/◌, ◌<◌, ◌≤◌, pos, Ok, List, [], ◌∷◌}
+use Rattle.std.specs.Prelude.{◌≡◌, refl, ℕ, zero, suc, ◌+◌, ◌-◌, ◌/◌, ◌<◌, ◌≤◌, pos, Ok, List, [], ◌∷◌}
 use Rattle.std.proofs.Common.{Ordering, Less, Equal, Greater, sym, ◌∙◌, ap, ap₂, subst, arith}
-use Rattle.std.specs.Int.{◌∣◌}
 use Rattle.std.proofs.Math.Nat.{div-mul_cancel}
 use Rattle.ct_algebra.specs.Polynomial.{Polynomial, polys, times, times_assoc}
 use Rattle.ct_algebra.specs.Substitution.{number}
 use Rattle.ct_algebra.specs.Terms.{by_order}
-use Rattle.ct_mono.specs.Checked.{Checked, ◌>>=◌, both_fit, verdict_ok}
+use Rattle.ct_mono.specs.Checked.{both_fit, verdict_ok}
 use Rattle.ct_poly.specs.Measures.{checked_times}
 use Rattle.ct_poly.specs.Order.{poly_cmp, poly_tied}
 use Rattle.ct_frac.specs.declared.factor.Factor.{Factor}
 use Rattle.ct_frac.specs.Arithmetic.{exponent_in, EachIsIn, DividesFactors, checked_often, checked_spread, checked_cleared}
-use Rattle.ct_frac.specs.Written.{Denominator, Written, IsFactor, IsBelow, AreFactors, IsDenominator, power, product_of, multiplied_out}
+use Rattle.ct_frac.specs.Written.{Denominator, Written, IsBelow, AreFactors, IsDenominator, power, product_of, multiplied_out}
 use Rattle.ct_frac.proofs.Denominators.{number-product}
-use Rattle.ct_frac.proofs.Exponents.{exponent_below, exponent_low, EachIsIn-itself, tied}
+use Rattle.ct_frac.proofs.Exponents.{exponent_below, exponent_low, tied}
 use Rattle.ct_frac.proofs.JoinedFactors.{same_ok}
 use Rattle.ct_frac.proofs.Products.{times_one, one_times, times_comm, times_left_comm, power-sum}
 

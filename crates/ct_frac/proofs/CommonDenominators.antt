@@ -1,15 +1,15 @@
 -- A common denominator is a denominator, and each part divides it factor by factor. Main lemmas `wider_ok`, `common_ok` for
 -- two fractions and `common_divided` for a list.
-use Rattle.std.specs.Prelude.{◌≡◌, refl, ℕ, zero, suc, ◌+◌, ◌*◌, ◌/◌, ◌<◌, ◌≤◌, Ok, List, [], ◌∷◌}
-use Rattle.std.proofs.Common.{sym, ◌∙◌, ap, ap₂, subst, arith}
+use Rattle.std.specs.Prelude.{◌≡◌, ℕ, ◌*◌, ◌/◌, ◌<◌, ◌≤◌, Ok, List, [], ◌∷◌}
+use Rattle.std.proofs.Common.{sym, ◌∙◌, ap, subst, arith}
 use Rattle.std.specs.Int.{◌∣◌, IsGcd}
 use Rattle.std.proofs.lemmas.Nat.Gcd.{dvd_trans, dvd_refl}
 use Rattle.std.proofs.Math.Nat.{div-mul_cancel, dvd-mul_left, mul_assoc, mul_comm, pos_of_ne-zero, le-mul_of_pos_right}
-use Rattle.ct_mono.specs.Checked.{Checked, ◌>>=◌, both_fit}
-use Rattle.ct_frac.specs.declared.factor.Factor.{Factor}
-use Rattle.ct_frac.specs.Arithmetic.{exponent_in, all_greatest, EachIsIn, DividesFactors, checked_whole, checked_wider, checked_common}
+use Rattle.ct_mono.specs.Checked.{both_fit}
+use Rattle.ct_frac.specs.Arithmetic.{all_greatest, DividesFactors, checked_whole, checked_wider, checked_common}
 use Rattle.ct_frac.specs.Divisors.{greatest_common, least_common}
-use Rattle.ct_frac.specs.Written.{Denominator, Written, AreFactors, IsDenominator, IsWritten, one_den}
+use Rattle.ct_frac.specs.FractionLaws.{EachIsWritten, EachDivides, CommonDenominatorIsDivided}
+use Rattle.ct_frac.specs.Written.{Denominator, Written, IsDenominator, one_den}
 use Rattle.ct_frac.proofs.CommonDivisors.{greatest_common_is}
 use Rattle.ct_frac.proofs.Exponents.{all_grow, all_stand, EachIsIn-grown, EachIsIn-itself, exponent_low}
 use Rattle.ct_frac.proofs.JoinedFactors.{same_ok, all_greatest_factors}
@@ -73,14 +73,6 @@ DividesFactors-trans c d e first second = record {
 
 -- ---- a list
 
-abbrev pub EachIsWritten : List Written → Type 0
-EachIsWritten [] = Unit {0}
-EachIsWritten (w ∷ ws) = IsWritten w × EachIsWritten ws
-
-abbrev pub EachDivides : List Written → Denominator → Type 0
-EachDivides [] d = Unit {0}
-EachDivides (w ∷ ws) d = DividesFactors w.den d × EachDivides ws d
-
 pub record Common (d : Denominator) (ws : List Written) (e : Denominator) : Type 0 where
   pub den : IsDenominator e
   pub first : DividesFactors d e
@@ -98,3 +90,6 @@ common_divided d (w ∷ ws) e answer is each =
       first = DividesFactors-trans d both.value e wide.first more.first;
       each = (DividesFactors-trans w.den both.value e wide.second more.first, more.each);
     }
+
+pub divided_by_each : CommonDenominatorIsDivided
+divided_by_each ws d each answer = let all = common_divided one_den ws d answer one_is_den each in (all.den, all.each)

@@ -1,20 +1,21 @@
 -- What the plainest calls on fractions give: a polynomial as a fraction, and the negative. Main lemmas `whole-value`,
 -- `negative_written` and `negative-value`.
-use Rattle.std.specs.Prelude.{◌≡◌, ◌≢◌, refl, pos}
+use Rattle.std.specs.Prelude.{◌≡◌, pos}
 use Rattle.std.proofs.Common.{sym, ◌∙◌, ap, subst}
 use Rattle.std.specs.Int.{IsGcd}
 use Rattle.ct_algebra.specs.Fractions.{embed_is}
 use Rattle.ct_algebra.specs.Group.{neg_neg, neg_zero}
-use Rattle.ct_algebra.specs.Polynomial.{Polynomial, polys, polys_domain, times}
+use Rattle.ct_algebra.specs.Polynomial.{Polynomial, polys, polys_domain}
 use Rattle.ct_algebra.specs.Substitution.{number, one_is}
 use Rattle.ct_algebra.specs.Field.{field}
 use Rattle.ct_algebra.specs.FieldLaws.{embedded}
-use Rattle.ct_poly.specs.Content.{content}
+use Rattle.ct_algebra.proofs.FieldLawProofs.{fractions}
+use Rattle.ct_frac.specs.FractionLaws.{WrittenValueIsAQuotient}
 use Rattle.ct_frac.specs.Arithmetic.{negative}
 use Rattle.ct_frac.specs.Written.{Written, IsWritten, multiplied_out, value, value_over, one_den, whole_polynomial}
 use Rattle.ct_frac.proofs.Denominators.{den_nonzero}
 use Rattle.ct_frac.proofs.Products.{times_one}
-use Rattle.ct_frac.proofs.Quotients.{value_over-ratio, over-negative}
+use Rattle.ct_frac.proofs.Quotients.{ratio, value_over-ratio, over-negative}
 use Rattle.ct_frac.proofs.WholeParts.{content-negative}
 
 pub multiplied_out-one : multiplied_out one_den ≡ polys.one
@@ -38,3 +39,10 @@ negative_written w is = record {
 pub negative-value : (w : Written) → IsWritten w → value (negative w) ≡ field.neg (value w)
 unfolding value
 negative-value w is = sym (over-negative w.numerator (multiplied_out w.den) (den_nonzero w.den is.den))
+
+pub value_is_a_quotient : WrittenValueIsAQuotient
+unfolding value
+value_is_a_quotient w is =
+    let some = den_nonzero w.den is.den in
+    ap (λ v. field.◌*◌ v (embedded (multiplied_out w.den))) (value_over-ratio w.numerator (multiplied_out w.den) some)
+    ∙ fractions.quotient (ratio w.numerator (multiplied_out w.den) some)

@@ -1,7 +1,7 @@
 -- When a whole number and an exponent pass their limits. Main lemmas `whole_fits`, `whole_passes` and `whole_ok`, and the
 -- same of exponents, which the calls and the laws on values cite.
-use Rattle.std.specs.Prelude.{◌≡◌, refl, ℕ, ◌<◌, ◌≤◌, Bool, true, false, ltb, Ok, Err, None, Some}
-use Rattle.std.proofs.Common.{sym, ◌∙◌, ap, arith}
+use Rattle.std.specs.Prelude.{◌≡◌, refl, ℕ, ◌<◌, ◌≤◌, Bool, true, false, ltb, Ok, Err, None}
+use Rattle.std.proofs.Common.{ap, arith}
 use Rattle.std.proofs.lemmas.Bool.{lt-ltb, le-ltb, ltb-false}
 use Rattle.ct_mono.specs.Checked.{verdict, verdict_ok, verdict_fits, verdict_refuses}
 use Rattle.ct_mono.specs.Limits.{largest_degree, largest_norm}

@@ -1,22 +1,21 @@
 -- The names of a monomial as factors: they are different, and their product is the monomial.
 -- Main lemmas `names_different` and `product_of-names`, which the quotient cites. A name is one term, so all that is asked
 -- of a factor is read off it.
-use Rattle.std.specs.Prelude.{◌≡◌, ◌≢◌, ◌↔◌, ◌⊎◌, refl, ℕ, zero, suc, ◌+◌, ◌<◌, ◌≤◌, ℤ, pos, false, true, Bool, cond, eqb, ltb, List, [], ◌∷◌}
+use Rattle.std.specs.Prelude.{◌≡◌, ◌≢◌, ◌⊎◌, refl, ℕ, zero, suc, ◌+◌, ◌<◌, ◌≤◌, ℤ, pos, false, true, Bool, cond, eqb, ltb, List, [], ◌∷◌}
 use Rattle.std.proofs.Common.{sym, ◌∙◌, ap, ap₂, subst, arith, eqb-true, eq-eqb, inl, inr}
 use Rattle.std.proofs.lemmas.Bool.{ne_eqb, lt-ltb, le-ltb, cases_order}
 use Rattle.ct_algebra.specs.Monomial.{Mono, exp, mono, exp-mono, mono-exp, exp-·, exp-unit, same_mono, total, unit, ◌·◌, sum_six}
-use Rattle.ct_algebra.specs.Names.{Name, name_with, place, symbol, exp-symbol}
+use Rattle.ct_algebra.specs.Names.{Name, name_with, symbol, exp-symbol}
 use Rattle.ct_algebra.specs.Polynomial.{Polynomial, polys, times, degree, degree_of}
-use Rattle.ct_algebra.specs.Substitution.{name, name_is, term, term_is, term-*, one_is, number_is, times_one}
+use Rattle.ct_algebra.specs.Substitution.{name, name_is, term, term_is, term-*, one_is, number_is}
 use Rattle.ct_algebra.specs.Sums.{single}
 use Rattle.ct_mono.specs.Limits.{largest_degree}
-use Rattle.ct_poly.specs.Content.{IsContentOf, content, common_monomial, is_negative, leads_below_zero, least_exp}
+use Rattle.ct_poly.specs.Content.{IsContentOf, common_monomial, is_negative, leads_below_zero, least_exp}
 use Rattle.ct_poly.proofs.Contents.{content_only}
 use Rattle.ct_poly.proofs.TermLists.{place-name_with}
-use Rattle.ct_frac.specs.declared.factor.Factor.{Factor}
 use Rattle.ct_frac.specs.Normal.{with_exponent, names_from}
-use Rattle.ct_frac.specs.Written.{IsBase, IsFactor, power, product_of}
-use Rattle.ct_frac.proofs.Products.{one_times, product_of-with_exponent}
+use Rattle.ct_frac.specs.Written.{IsBase, power, product_of}
+use Rattle.ct_frac.proofs.Products.{product_of-with_exponent}
 use Rattle.ct_frac.proofs.Sorting.{DiffersFrom, AreDifferent}
 
 abbrev number_if : Bool → ℕ → ℕ → ℕ

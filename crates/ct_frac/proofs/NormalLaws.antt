@@ -2,8 +2,8 @@
 -- answers a fraction cites.
 -- Dividing a factor out as often as it goes takes one power from the numerator and from the factor; so the cross products
 -- stay equal. What is left has no common divisor, since a further one would divide the greatest.
-use Rattle.std.specs.Prelude.{◌≡◌, ◌≢◌, refl, ℕ, zero, suc, ◌+◌, ◌*◌, ◌/◌, ◌<◌, ◌≤◌, pos, Bool, true, false, cond, None, Some, List, [], ◌∷◌, ◌++◌}
-use Rattle.std.proofs.Common.{Option, sym, ◌∙◌, ap, ap₂, subst, arith}
+use Rattle.std.specs.Prelude.{◌≡◌, ◌≢◌, refl, ℕ, zero, suc, ◌*◌, ◌/◌, ◌<◌, ◌≤◌, pos, Bool, true, false, cond, None, Some, List, [], ◌∷◌, ◌++◌}
+use Rattle.std.proofs.Common.{Option, sym, ◌∙◌, ap, subst, arith}
 use Rattle.std.specs.Int.{◌∣◌, IsGcd}
 use Rattle.std.proofs.lemmas.List.{append-nil}
 use Rattle.std.proofs.lemmas.Nat.Gcd.{dvd_refl}
@@ -11,10 +11,8 @@ use Rattle.std.proofs.Math.Nat.{div-le_self, div-mul_cancel, dvd_of_mul-dvd-mul_
 use Rattle.ct_algebra.specs.Domain.{zero_factor}
 use Rattle.ct_algebra.specs.Monomial.{unit}
 use Rattle.ct_algebra.specs.Polynomial.{Polynomial, polys, polys_domain, times, times_assoc}
-use Rattle.ct_algebra.specs.Ring.{zero_mul, mul_zero}
-use Rattle.ct_algebra.specs.RingTactic.{ring4, ring5, ring6, reify}
-use Rattle.ct_algebra.specs.Substitution.{number, one_is}
-use Rattle.ct_mono.specs.Limits.{largest_norm}
+use Rattle.ct_algebra.specs.Ring.{zero_mul}
+use Rattle.ct_algebra.specs.Substitution.{number}
 use Rattle.ct_poly.specs.Content.{content, divided}
 use Rattle.ct_poly.specs.Division.{quotient}
 use Rattle.ct_poly.proofs.DivisionLaws.{quotient_is}
@@ -24,7 +22,7 @@ use Rattle.ct_frac.specs.Divisors.{greatest_common}
 use Rattle.ct_frac.specs.Normal.{on_quotient, divided_out, with_exponent, Lowered, lowered, cancelled, in_lowest_terms, normal}
 use Rattle.ct_frac.specs.Written.{Denominator, Written, AreFactors, IsDenominator, IsWritten, power, product_of, multiplied_out, value, value_over, one_den, whole_polynomial}
 use Rattle.ct_frac.proofs.CommonDivisors.{greatest_common_is, greatest_common_only}
-use Rattle.ct_frac.proofs.Denominators.{factors-kept, factors_nonzero, number-product, den_nonzero}
+use Rattle.ct_frac.proofs.Denominators.{factors-kept, number-product, den_nonzero}
 use Rattle.ct_frac.proofs.Products.{times_comm, times_one, one_times, times_left_comm, product_of-append, product_of-with_exponent}
 use Rattle.ct_frac.proofs.Quotients.{same_over}
 use Rattle.ct_frac.proofs.WholeParts.{part_whole, content_of_part}
@@ -115,10 +113,14 @@ module _ (n : Polynomial) (d : Denominator) (is : IsDenominator d) where
   }
 
   coprime : IsGcd (content r.numerator) r.den.whole 1
-  coprime = (one-dvd _, one-dvd _, λ x first second.
-      dvd_of_mul-dvd-mul_right x g_positive (subst (λ k. x * g ∣ k) (sym (one-mul g))
-      (greatest.2 (x * g) (content_of_part x g l.numerator greatest.0 first)
-      (subst (λ k. x * g ∣ k) whole_is (mul-dvd-mul_right x second g)))))
+  coprime = (
+    one-dvd _,
+    one-dvd _,
+    λ x first second.
+        dvd_of_mul-dvd-mul_right x g_positive (subst (λ k. x * g ∣ k) (sym (one-mul g))
+        (greatest.2 (x * g) (content_of_part x g l.numerator greatest.0 first)
+        (subst (λ k. x * g ∣ k) whole_is (mul-dvd-mul_right x second g)))),
+  )
 
   numerator_is : times (number (pos g)) r.numerator ≡ l.numerator
   numerator_is = part_whole g l.numerator greatest.0

@@ -2,7 +2,7 @@
 -- `quotient_written` and `quotient_of-value`, which `Frac::quotient` cites.
 -- The factors of the divisor are the names of its common monomial and its primitive part: times its content they are the
 -- divisor, but for the sign.
-use Rattle.std.specs.Prelude.{◌≡◌, ◌≢◌, refl, ℕ, zero, suc, ◌+◌, ◌*◌, ◌<◌, ◌≤◌, ℤ, pos, negsuc, neg_ℤ, ◌*ℤ◌, unsigned_abs, Bool, true, false, cond, eqb, T, List, [], ◌∷◌, ◌++◌}
+use Rattle.std.specs.Prelude.{◌≡◌, ◌≢◌, refl, ℕ, ◌+◌, ◌<◌, ◌≤◌, ℤ, pos, negsuc, neg_ℤ, unsigned_abs, Bool, true, false, cond, eqb, List, [], ◌∷◌, ◌++◌}
 use Rattle.std.proofs.Common.{sym, ◌∙◌, ap, ap₂, subst, arith, Less, Equal}
 use Rattle.std.specs.Int.{◌∣◌}
 use Rattle.std.proofs.lemmas.Bool.{eqb-true, eqb-false}
@@ -11,9 +11,9 @@ use Rattle.std.proofs.lemmas.Nat.Gcd.{dvd_refl}
 use Rattle.std.proofs.Math.Nat.{eq-one_of_dvd-one, pos_of_ne-zero}
 use Rattle.ct_algebra.specs.Group.{neg_unique}
 use Rattle.ct_algebra.specs.Laws.Terms.{less_is}
-use Rattle.ct_algebra.specs.Monomial.{Mono, monomials, mono_cmp, mono_same, exp, exp-unit, same_mono, total, unit}
+use Rattle.ct_algebra.specs.Monomial.{Mono, monomials, mono_cmp, mono_same, exp-unit, same_mono, total, unit}
 use Rattle.ct_algebra.specs.Polynomial.{Polynomial, polys, times, times_assoc, degree, degree_greatest, norm}
-use Rattle.ct_algebra.specs.RingTactic.{ring2, ring3, reify}
+use Rattle.ct_algebra.specs.RingTactic.{ring2, reify}
 use Rattle.ct_algebra.specs.Substitution.{term, term_is, number, number-*, number_is, one_is, term-sum}
 use Rattle.ct_algebra.specs.Substitution as substitution
 use Rattle.ct_algebra.specs.Ring.{zero_mul, one_mul}
@@ -21,13 +21,12 @@ use Rattle.ct_algebra.specs.Sums.{same_terms, single, none_of, has_none}
 use Rattle.ct_algebra.specs.Terms.{EachTerm, IsCanonical}
 use Rattle.ct_algebra.specs.WholeNumbers.{int_group}
 use Rattle.ct_mono.specs.Limits.{largest_degree, largest_norm}
-use Rattle.ct_poly.specs.Content.{DividesAll, IsContentOf, content, common_monomial, is_negative, leads_below_zero, signed_content, signed, primitive_part}
-use Rattle.ct_poly.specs.Division.{quotient}
+use Rattle.ct_poly.specs.Content.{DividesAll, content, common_monomial, is_negative, leads_below_zero, signed_content, signed, primitive_part}
 use Rattle.ct_poly.proofs.Contents.{content_is}
 use Rattle.ct_poly.proofs.PrimitiveParts.{part_whole, part_primitive}
 use Rattle.ct_frac.specs.declared.factor.Factor.{Factor}
 use Rattle.ct_frac.specs.Normal.{normal, names_from, sorted_onto, unless_constant, factors_of, with_sign_of, quotient_of}
-use Rattle.ct_frac.specs.Written.{Denominator, AreFactors, IsFactor, IsDenominator, IsWritten, product_of, multiplied_out, value, value_over}
+use Rattle.ct_frac.specs.Written.{Denominator, AreFactors, IsFactor, IsDenominator, product_of, multiplied_out, value, value_over}
 use Rattle.ct_frac.proofs.Denominators.{den_nonzero}
 use Rattle.ct_frac.proofs.NameFactors.{IsBounded, names_different, differs_from_names, name_divides, product_of-names, total_some}
 use Rattle.ct_frac.proofs.NormalLaws.{normal-value}

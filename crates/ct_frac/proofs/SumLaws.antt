@@ -1,7 +1,7 @@
 -- Sums, differences and products of written fractions have the values of the field operations. Main lemmas `sum-value`,
 -- `difference-value`, `product-value` and `same_value_is`, which the calls of `Frac` cite.
 -- Each numerator is cleared to the common denominator, so the cross products of the sum are equal.
-use Rattle.std.specs.Prelude.{◌≡◌, ◌≢◌, refl, ℕ, ◌*◌, ◌≤◌, ◌<◌, pos, Bool, true, false, cond, ◌||◌, Ok, Err, List, [], ◌∷◌, ◌↔◌, IfOk}
+use Rattle.std.specs.Prelude.{◌≡◌, ◌≢◌, refl, ℕ, ◌*◌, ◌≤◌, pos, Bool, true, false, cond, ◌||◌, Ok, Err, List, [], ◌∷◌, ◌↔◌, IfOk}
 use Rattle.std.proofs.Common.{Result, sym, ◌∙◌, ap, ap₂, subst, arith, IsTrue}
 use Rattle.std.proofs.Math.Nat.{le-mul_of_pos_right}
 use Rattle.std.proofs.lemmas.Grind.{common_steps}
@@ -11,20 +11,20 @@ use Rattle.ct_algebra.specs.Group.{neg_neg, neg_unique}
 use Rattle.ct_algebra.specs.RingTactic.{ring4, ring5, reify}
 use Rattle.ct_algebra.specs.Substitution.{number}
 use Rattle.ct_algebra.specs.Field.{K, field}
-use Rattle.ct_mono.specs.Checked.{Checked, Answers, ◌>>=◌, both_fit, verdict_ok}
+use Rattle.ct_mono.specs.Checked.{Checked, Answers, both_fit, verdict_ok}
 use Rattle.ct_mono.specs.declared.fault.Fault.{Fault}
 use Rattle.ct_poly.specs.Measures.{checked_plus, checked_minus, checked_times, minus}
 use Rattle.ct_frac.specs.declared.factor.Factor.{Factor}
 use Rattle.ct_frac.specs.Arithmetic.{DividesFactors, checked_whole, checked_joined_all, checked_common, checked_cleared, checked_sum, checked_difference, checked_full_product, checked_product, checked_same_value}
 use Rattle.ct_frac.specs.Normal.{normal}
-use Rattle.ct_frac.specs.Written.{Denominator, Written, AreFactors, IsDenominator, IsWritten, product_of, multiplied_out, value, value_over, one_den, whole_polynomial}
+use Rattle.ct_frac.specs.Written.{Denominator, Written, IsDenominator, IsWritten, product_of, multiplied_out, value, value_over, one_den, whole_polynomial}
 use Rattle.ct_frac.proofs.Clearing.{cleared_ok}
-use Rattle.ct_frac.proofs.CommonDenominators.{Common, common_divided}
+use Rattle.ct_frac.proofs.CommonDenominators.{common_divided}
 use Rattle.ct_frac.proofs.Denominators.{den_nonzero, number-product}
 use Rattle.ct_frac.proofs.JoinedFactors.{same_ok, joined_all_ok}
 use Rattle.ct_frac.proofs.Limits.{whole_ok}
 use Rattle.ct_frac.proofs.NormalLaws.{normal_written, normal-value, one_is_den, whole_written}
-use Rattle.ct_frac.proofs.Products.{times_comm, times_left_comm}
+use Rattle.ct_frac.proofs.Products.{times_left_comm}
 use Rattle.ct_frac.proofs.Quotients.{same_over, over-sum, over-times, over-negative, over_zero, times_nonzero}
 use Rattle.ct_frac.proofs.Fractions.{over-one}
 
@@ -195,8 +195,7 @@ same_value_is x y b is it answer =
     let both = both_fit (checked_difference x y) (λ w. Ok (polys.is_zero w.numerator)) b answer in
     let told : polys.is_zero both.value.numerator ≡ b = same_ok _ b both.rest in
     let difference = difference-value x y both.value is it both.first in
-    let written = sum_written x y both.value is it both.first in
-    (
+    let written = sum_written x y both.value is it both.first in (
       λ yes. difference_zero (value x) (value y) (sym difference ∙ value-zero both.value written (polys.true_zero both.value.numerator (told ∙ yes))),
       λ same. sym told ∙ ap polys.is_zero (numerator_zero both.value written (difference ∙ ap (λ v. field.◌+◌ v (field.neg (value y))) same ∙ field.add_neg (value y))) ∙ polys.zero_true,
     )

@@ -4,7 +4,6 @@ use Rattle.std.specs.Prelude.{◌≡◌, refl, ℕ, zero, suc, ◌*◌, ◌/◌,
 use Rattle.std.proofs.Common.{Ordering, Less, Equal, Greater, sym, ◌∙◌, ap, ap₂, subst, arith}
 use Rattle.std.specs.Int.{◌∣◌}
 use Rattle.std.proofs.lemmas.Int.{unsigned_abs-mul}
-use Rattle.std.proofs.lemmas.Nat.Gcd.{dvd_refl}
 use Rattle.std.proofs.Math.Nat.{div-mul_cancel, mul-dvd-mul_right, one-dvd}
 use Rattle.ct_algebra.specs.Monomial.{Mono, monomials, mono_cmp, exp, mono, exp-mono, same_mono, exp-unit, unit}
 use Rattle.ct_algebra.specs.Polynomial.{Polynomial, polys, times, count, norm}

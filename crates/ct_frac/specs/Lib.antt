@@ -4,3 +4,4 @@ pub mod Normal
 pub mod Code
 pub mod Arithmetic
 pub mod Symbols
+pub mod FractionLaws

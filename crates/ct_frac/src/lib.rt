@@ -1,4 +1,12 @@
 //! Fractions of polynomials with factored denominators, exact and with exact overflow.
+//!
+//! A `Frac` is seen as it is written: a numerator over a whole number and a rising list of factors with exponents,
+//! with no whole number that divides both; zero is 0 over 1. Factors need not be irreducible, so one value is written
+//! in several ways; `same` compares what is written and `same_value` the values.
+//!
+//! A call that can overflow answers the checked computation of `specs/Arithmetic.antt`, step by step; the others
+//! answer the written form of `specs/Normal.antt`. The value of each is that of the field of fractions of ct_algebra.
+//! Nothing here shifts or derives a fraction.
 #![tactic(auto)]
 
 mod clear;
@@ -7,6 +15,7 @@ mod den;
 mod factor;
 mod frac;
 mod insertion;
+pub mod laws;
 mod left;
 mod normal;
 mod quotient;

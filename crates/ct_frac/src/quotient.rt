@@ -81,12 +81,7 @@ fn factors_of_names(alloc: Global, mono: &Monomial) -> Result<Vec<Factor>, NoMem
 }
 
 // Puts in a name, unless its exponent is 0.
-fn insert_name(
-    alloc: Global,
-    factors: &mut Vec<Factor>,
-    i: u8,
-    exp: u32,
-) -> Result<(), NoMemory>
+fn insert_name(alloc: Global, factors: &mut Vec<Factor>, i: u8, exp: u32) -> Result<(), NoMemory>
     requires { i < 6 }
     ensures { IfOk result (λ _. factors.new.items ≡ sorted_onto factors.old.items (with_exponent (name (name_with i)) exp [])) }
 {

@@ -1,5 +1,7 @@
 // Written fractions, with values worked by hand.
-use crate::{Fault, Frac, NoMemory, Poly};
+ghost use Rattle.std.specs.Prelude.{pos, ◌≤ℤ◌};
+
+use crate::{Fault, Frac, Kind, Poly};
 use std::alloc::Global;
 use std::test::Fail;
 
@@ -34,6 +36,29 @@ fn is_written(f: &Frac, numerator: &Poly, whole: u128, factors: &[(&Poly, u32)])
     written
 }
 
+// 1 / (k + c)
+fn reciprocal(alloc: Global, c: i16) -> Result<Frac, Fault> {
+    let one = quadratic(alloc, 0, 0, 1)?;
+    let d = quadratic(alloc, 0, 1, c)?;
+    ratio(alloc, &one, &d)
+}
+
+// (k + 1) / (k² + 3·k + 2)
+fn unreduced(alloc: Global) -> Result<Frac, Fault> {
+    let n = quadratic(alloc, 0, 1, 1)?;
+    let d = quadratic(alloc, 1, 3, 2)?;
+    ratio(alloc, &n, &d)
+}
+
+// 1 / c
+fn unit_fraction(alloc: Global, c: i128) -> Result<Frac, Fault>
+    requires { pos 0 ≤ℤ c }
+{
+    let one = Poly::constant(alloc, 1)?;
+    let d = Poly::constant(alloc, c)?;
+    ratio(alloc, &one, &d)
+}
+
 #[test]
 fn a_quotient_is_in_lowest_terms(rt: HostRuntime) -> Result<(), Fail> {
     let n = quadratic(rt.alloc(), 2, 2, 0)?;
@@ -48,27 +73,55 @@ fn a_quotient_is_in_lowest_terms(rt: HostRuntime) -> Result<(), Fail> {
 fn a_factor_that_does_not_divide_stays(rt: HostRuntime) -> Result<(), Fail> {
     let n = quadratic(rt.alloc(), 0, 1, 1)?;
     let d = quadratic(rt.alloc(), 1, 3, 2)?;
-    let r = ratio(rt.alloc(), &n, &d)?;
+    let r = unreduced(rt.alloc())?;
     assert!(rt; is_written(&r, &n, 1, &[(&d, 1)]));
-    let one = quadratic(rt.alloc(), 0, 0, 1)?;
-    let other = quadratic(rt.alloc(), 0, 1, 2)?;
-    let reduced = ratio(rt.alloc(), &one, &other)?;
-    assert!(rt; is_written(&reduced, &one, 1, &[(&other, 1)]));
-    assert!(rt; !r.same(&reduced));
-    assert!(rt; r.same(&r));
     Ok(())
 }
 
 #[test]
 fn equal_values_can_be_written_apart(rt: HostRuntime) -> Result<(), Fail> {
-    let n = quadratic(rt.alloc(), 0, 1, 1)?;
-    let d = quadratic(rt.alloc(), 1, 3, 2)?;
-    let r = ratio(rt.alloc(), &n, &d)?;
-    let one = quadratic(rt.alloc(), 0, 0, 1)?;
-    let other = quadratic(rt.alloc(), 0, 1, 2)?;
-    let reduced = ratio(rt.alloc(), &one, &other)?;
+    let r = unreduced(rt.alloc())?;
+    let reduced = reciprocal(rt.alloc(), 2)?;
+    assert!(rt; !r.same(&reduced));
     assert!(rt; r.same_value(rt.alloc(), &reduced)?);
-    let negative = reduced.neg(rt.alloc())?;
-    assert!(rt; !r.same_value(rt.alloc(), &negative)?);
+    assert!(rt; !r.same_value(rt.alloc(), &reduced.neg(rt.alloc())?)?);
     Ok(())
+}
+
+#[test]
+fn a_difference_of_equals_is_zero(rt: HostRuntime) -> Result<(), Fail> {
+    let x = reciprocal(rt.alloc(), 1)?;
+    let none = x.sub(rt.alloc(), &x)?;
+    let zero = Frac::zero(rt.alloc())?;
+    assert!(rt; none.same(&zero));
+    assert!(rt; x.mul(rt.alloc(), &zero)?.same(&zero));
+    Ok(())
+}
+
+#[test]
+fn a_common_denominator_has_the_greatest_exponents(rt: HostRuntime) -> Result<(), Fail> {
+    let x = reciprocal(rt.alloc(), 1)?;
+    let mut list = Vec::new(rt.alloc());
+    list.push(x.mul(rt.alloc(), &x)?).map_err(|_| "no memory")?;
+    list.push(x).map_err(|_| "no memory")?;
+    let den = Frac::common(rt.alloc(), list.as_slice())?;
+    assert_eq!(rt; den.whole(), 1);
+    assert!(rt; den.factors().len() == 1 && den.factors()[0].exp == 2);
+    Ok(())
+}
+
+#[test]
+fn whole_numbers_overflow_past_the_limit(rt: HostRuntime) -> Result<(), Fail> {
+    let x = unit_fraction(rt.alloc(), i128::MAX)?;
+    let y = unit_fraction(rt.alloc(), 2)?;
+    assert!(rt; overflows_by_number(x.add(rt.alloc(), &y)));
+    assert!(rt; overflows_by_number(x.mul(rt.alloc(), &y)));
+    Ok(())
+}
+
+fn overflows_by_number(answer: Result<Frac, Fault>) -> bool {
+    match answer {
+        Err(fault) => fault == Fault::Overflow(Kind::Number),
+        Ok(_) => false,
+    }
 }

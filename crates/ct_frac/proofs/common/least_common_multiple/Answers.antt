@@ -1,4 +1,4 @@
-use Rattle.std.proofs.Common.{◌*◌, ◌/◌, ap, subst}
+use Rattle.std.proofs.Common.{◌*◌, ◌/◌, subst}
 use Rattle.ct_mono.specs.Checked.{Answers}
 use Rattle.ct_frac.specs.Arithmetic.{checked_whole}
 use Rattle.ct_frac.specs.Divisors.{least_common}

@@ -1,6 +1,5 @@
-use Rattle.std.proofs.Common.{◌≡◌, ◌<◌, ◌≤◌, ◌*◌, Ok, ◌∙◌, ap, sym, subst, arith}
+use Rattle.std.proofs.Common.{◌≡◌, ◌≤◌, ◌*◌, Ok, ◌∙◌, ap, arith}
 use Rattle.ct_mono.specs.Limits.{largest_norm}
-use Rattle.ct_frac.specs.Arithmetic.{checked_whole}
 use Rattle.ct_frac.proofs.Limits.{whole_fits, whole_passes}
 use Rattle.ct_frac.proofs.common.whole_product.Goals as goal
 

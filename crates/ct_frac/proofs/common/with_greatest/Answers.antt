@@ -1,7 +1,6 @@
-use Rattle.std.proofs.Common.{◌≡◌, ◌≤◌, ◌<◌, max, length, sym, ◌∙◌, ap, ap₂, arith}
+use Rattle.std.proofs.Common.{◌≡◌, sym, ◌∙◌, ap, ap₂, arith}
 use Rattle.std.proofs.lemmas.Result.{IfOk-weaker}
 use Rattle.std.specs.List.{insert}
-use Rattle.ct_frac.specs.declared.insertion.Place.TheVariants.{At, Before}
 use Rattle.ct_frac.specs.Code.{find_place, exponent_set}
 use Rattle.ct_frac.proofs.Joining.{found_at, found_before}
 use Rattle.ct_frac.proofs.common.with_greatest.Goals as goal

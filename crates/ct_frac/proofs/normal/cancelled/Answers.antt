@@ -1,10 +1,7 @@
-use Rattle.std.proofs.Common.{◌≡◌, sym, ◌∙◌, subst, arith}
+use Rattle.std.proofs.Common.{sym, subst, arith}
 use Rattle.std.specs.Int.{IsGcd}
-use Rattle.ct_poly.specs.Content.{content}
 use Rattle.ct_frac.specs.Written.{IsWritten, IsDenominator}
-use Rattle.ct_frac.specs.Normal.{in_lowest_terms}
-use Rattle.ct_frac.specs.Code.{lowered_of}
-use Rattle.ct_frac.proofs.CommonDivisors.{divisor_positive, divisor_small, greatest_common_only}
+use Rattle.ct_frac.proofs.CommonDivisors.{divisor_positive, divisor_small}
 use Rattle.ct_frac.proofs.NormalLaws.{cancelled_is}
 use Rattle.ct_frac.proofs.normal.cancelled.Goals as goal
 

@@ -1,4 +1,4 @@
-use Rattle.std.proofs.Common.{◌≡◌, Ok, sym, ◌∙◌, ap, ap₂, ◌*◌, rules}
+use Rattle.std.proofs.Common.{◌≡◌, Ok, ◌*◌, rules}
 use Rattle.ct_frac.specs.Arithmetic.{checked_whole, checked_joined_all}
 use Rattle.ct_frac.proofs.SumLaws.{product_den}
 use Rattle.ct_frac.proofs.sum.full_product.Goals as goal

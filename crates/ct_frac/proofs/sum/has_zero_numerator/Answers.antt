@@ -1,4 +1,4 @@
-use Rattle.std.proofs.Common.{◌∙◌, ap, subst, IsTrue}
+use Rattle.std.proofs.Common.{subst, IsTrue}
 use Rattle.std.specs.Prelude.{◌≡◌, ◌↔◌}
 use Rattle.ct_algebra.specs.Polynomial.{polys}
 use Rattle.ct_frac.proofs.SumLaws.{is_zero_told}

@@ -1,4 +1,4 @@
-use Rattle.std.proofs.Common.{◌≡◌, Ok, length, ◌+◌, sym, ◌∙◌, ap, ap₂, subst, arith, rules}
+use Rattle.std.proofs.Common.{◌≡◌, Ok, sym, ◌∙◌, ap, subst, arith, rules}
 use Rattle.std.specs.List.{insert}
 use Rattle.ct_mono.specs.Checked.{AnswersBy, ◌>>=◌}
 use Rattle.ct_frac.specs.Code.{find_place, exponent_set}

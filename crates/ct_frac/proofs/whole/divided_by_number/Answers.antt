@@ -1,4 +1,4 @@
-use Rattle.std.proofs.Common.{◌≡◌, sym, ◌∙◌, ap, pos}
+use Rattle.std.proofs.Common.{sym, ◌∙◌, ap, pos}
 use Rattle.ct_algebra.specs.Monomial.{unit}
 use Rattle.ct_poly.specs.Content.{divided}
 use Rattle.ct_poly.proofs.OfTerms.{poly_is}
