@@ -7,7 +7,7 @@
 --                            often as the exponents differ, one factor at a time
 --     checked_sum, checked_difference, checked_product, negative   of written fractions
 --     checked_same_value     whether the difference is zero
--- The first step that overflows decides the kind. Each has the value of the field operation: `ValueLaws`.
+-- The first step that overflows decides the kind. Each has the value of the field operation: `SumLaws`.
 use Rattle.std.specs.Prelude.{ℕ, zero, suc, ◌+◌, ◌-◌, ◌*◌, ◌/◌, ◌≤◌, max, pos, Bool, ◌||◌, cond, ltb, Ok, None, List, [], ◌∷◌}
 use Rattle.std.specs.Int.{◌∣◌}
 use Rattle.ct_algebra.specs.Polynomial.{Polynomial, polys}

@@ -6,7 +6,7 @@
 --     factors_of d           the factors of a divisor: the names of its common monomial, and its primitive part
 --     quotient_of n d        n divided by d
 -- A division that overflows counts as one that does not go; so no step here overflows. A list of factors is rising
--- where each one is put in by `inserted`. The value stays through all of this: `ValueLaws`.
+-- where each one is put in by `inserted`. The value stays through all of this: `NormalLaws`, `QuotientLaws`.
 use Rattle.std.specs.Prelude.{ℕ, zero, suc, ◌+◌, ◌/◌, pos, cond, eqb, None, Some, List, [], ◌∷◌, ◌++◌}
 use Rattle.std.proofs.Common.{Option}
 use Rattle.ct_algebra.specs.Monomial.{Mono, exp, unit}

@@ -7,7 +7,7 @@
 --     multiplied_out d       the denominator as one polynomial
 --     value w                the numerator over the denominator multiplied out, in the field of fractions
 -- Factors need not be irreducible, and one of them may still divide the numerator: so one value is written in several
--- ways. The value alone is that of the field operations (`ValueLaws`).
+-- ways. The value alone is that of the field operations: clause `value` of each call, law `written_value_is_a_quotient`.
 use Rattle.std.specs.Prelude.{◌≡◌, refl, ℕ, zero, suc, ◌<◌, ◌≤◌, false, pos, List, [], ◌∷◌}
 use Rattle.std.specs.Coded.{Coded, code_by, coded×, coded_ℕ, coded_list}
 use Rattle.std.proofs.Common.{Less}
