@@ -5,6 +5,8 @@ use crate::{Fault, Frac, Kind, Poly};
 use std::alloc::Global;
 use std::test::Fail;
 
+mod rows;
+
 // a·k² + b·k + c, where k is the name 1
 fn quadratic(alloc: Global, a: i16, b: i16, c: i16) -> Result<Poly, Fault> {
     let k = Poly::name(alloc, 1)?;
