@@ -16,3 +16,5 @@ pub mod Exponents
 pub mod Clearing
 pub mod CommonDenominators
 pub mod SumLaws
+pub mod ShiftedTerms
+pub mod ShiftedFactors

@@ -4,9 +4,9 @@
 //! with no whole number that divides both; zero is 0 over 1. Factors need not be irreducible, so one value is written
 //! in several ways; `same` compares what is written and `same_value` the values.
 //!
-//! A call that can overflow answers the checked computation of `specs/Arithmetic.antt`, step by step; the others
-//! answer the written form of `specs/Normal.antt`. The value of each is that of the field of fractions of ct_algebra.
-//! Nothing here shifts or derives a fraction.
+//! A call that can overflow answers the checked computation of `specs/Arithmetic.antt` or `specs/Symbols.antt`, step by
+//! step; the others answer the written form of `specs/Normal.antt`. The value of each is that of the field of fractions
+//! of ct_algebra, with σ for a shift.
 #![tactic(auto)]
 
 mod clear;
@@ -20,6 +20,7 @@ mod left;
 mod normal;
 mod quotient;
 mod same;
+mod sigma;
 mod sum;
 #[cfg(test)]
 mod tests;

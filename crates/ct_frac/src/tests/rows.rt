@@ -8,6 +8,7 @@ use std::alloc::Global;
 mod differences;
 mod products;
 mod quotients;
+mod shifts;
 mod sums;
 
 type Terms = &'static [(i128, u16, u16)];
@@ -73,6 +74,8 @@ fn result(
         "sum" => x.add(alloc, &y),
         "difference" => x.sub(alloc, &y),
         "product" => x.mul(alloc, &y),
+        "sigma of n" => x.sigma(alloc, 0),
+        "sigma of k" => x.sigma(alloc, 1),
         _ => Ok(x),
     }
 }
