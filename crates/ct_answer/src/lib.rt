@@ -5,6 +5,7 @@
 #![tactic(auto)]
 
 mod factors;
+pub mod laws;
 mod operator;
 mod polynomial;
 #[cfg(test)]

@@ -1,0 +1,9 @@
+pub mod TokensAhead
+pub mod ReadTexts
+pub mod NamePlaces
+pub mod PrintedExpressions
+pub mod SpelledPowers
+pub mod SpelledSums
+pub mod SpelledOperators
+pub mod FittingTexts
+pub mod SpelledTexts

@@ -1,0 +1,29 @@
+-- What is printed is spelled by the grammar. Main lemmas `polynomials_are_spelled` and `operators_are_spelled`.
+use Rattle.std.proofs.Common.{true, false, List}
+use Rattle.ct_algebra.specs.Polynomial.{Polynomial}
+use Rattle.ct_algebra.specs.Operators.{Operator}
+use Rattle.ct_ore.specs.Naming.{Naming, IsAlgebra}
+use Rattle.ct_problem.specs.Grammar.{IsNested, IsExpression}
+use Rattle.ct_answer.specs.Text.{polynomial_text, operator_text}
+use Rattle.ct_answer.specs.ReadBack.{PolynomialFits, OperatorFits, IsSpelled, PrintedPolynomialsAreSpelled, PrintedOperatorsAreSpelled}
+use Rattle.ct_answer.proofs.ReadTexts.{Writes-whole}
+use Rattle.ct_answer.proofs.PrintedExpressions.{polynomial_expression, operator_expression}
+use Rattle.ct_answer.proofs.SpelledSums.{Writes-polynomial}
+use Rattle.ct_answer.proofs.SpelledOperators.{Writes-operator}
+use Rattle.ct_answer.proofs.FittingTexts.{entries_fit, operator_entries_fit}
+
+pub polynomial_is_spelled : (names : List Naming) (p : Polynomial) → IsAlgebra names → PolynomialFits names p → IsSpelled names false (polynomial_expression p) (polynomial_text names p)
+polynomial_is_spelled names p known fits =
+    let all = Writes-whole false true (polynomial_text names p) (IsExpression names false (polynomial_expression p)) (Writes-polynomial names known false (IsNested names false 64) p (entries_fit names false p fits)) in
+    record { whole = all.no_bad; stands = all.stands }
+
+pub operator_is_spelled : (names : List Naming) (p : Operator) → IsAlgebra names → OperatorFits names p → IsSpelled names true (operator_expression p) (operator_text names p)
+operator_is_spelled names p known fits =
+    let all = Writes-whole false true (operator_text names p) (IsExpression names true (operator_expression p)) (Writes-operator names known 63 p (operator_entries_fit names p fits)) in
+    record { whole = all.no_bad; stands = all.stands }
+
+pub polynomials_are_spelled : PrintedPolynomialsAreSpelled
+polynomials_are_spelled names p known fits = (polynomial_expression p, polynomial_is_spelled names p known fits)
+
+pub operators_are_spelled : PrintedOperatorsAreSpelled
+operators_are_spelled names p known fits = (operator_expression p, operator_is_spelled names p known fits)
