@@ -1,5 +1,5 @@
 #!/usr/bin/env python3
-"""Times products and exact divisions of polynomials, all as ratios of one run on this machine.
+"""Times products and exact divisions of polynomials and sums of fractions, all as ratios of one run on this machine.
 
 Usage: bench/division.py, at the root of the repository, once `rt run bench_division` has built crates/bench_division.
 It builds bench/division_yardstick by cargo. Each time is the least processor time of seven runs, the programs taking
@@ -25,6 +25,8 @@ CASES = [
     ("division 120 x 120", "divide", 7, 7, 300),
     ("division 286 x 286", "divide", 10, 10, 40),
     ("division 969 x 286", "divide", 16, 10, 8),
+    ("sum of fractions, numerators of 286", "sum", 10, 10, 200),
+    ("sum of fractions, numerators of 969", "sum", 16, 16, 60),
 ]
 
 

@@ -1,6 +1,7 @@
-//! Products and exact divisions of polynomials in plain Rust, with the same words as `bench_division`: terms in falling
-//! order, products by halves that are merged, divisions whose rest is merged with a multiple of the divisor. With
-//! `copying` in place of `divide`, each step of a division copies the rest and makes the multiple as a list first.
+//! Products and exact divisions of polynomials and sums of fractions in plain Rust, with the same words as
+//! `bench_division`: terms in falling order, products by halves that are merged, divisions whose rest is merged with a
+//! multiple of the divisor. With `copying` in place of `divide`, each step of a division copies the rest and makes the
+//! multiple as a list first. A sum is cleared by the other denominator, and each factor is divided out where it goes.
 use std::cmp::Ordering;
 
 #[derive(Clone, Copy, PartialEq, Eq)]
@@ -149,6 +150,27 @@ fn divide(p: &[Term], f: &[Term], copies: bool) -> Option<Poly> {
     (quotient_norm <= LARGEST).then_some(quotient)
 }
 
+fn gcd(a: u128, b: u128) -> u128 {
+    if b == 0 { a } else { gcd(b, a % b) }
+}
+
+fn content(p: &[Term]) -> u128 {
+    p.iter().fold(0, |g, t| if g == 1 { 1 } else { gcd(t.coef.unsigned_abs(), g) })
+}
+
+/// The numerator of p/f + q/g, where f and g are different factors.
+fn fraction_sum(p: &[Term], f: &[Term], q: &[Term], g: &[Term]) -> Poly {
+    let mut n = sum(&product(p, g), &product(q, f));
+    let (low, high) = if f.iter().map(|t| (t.mono, t.coef)).lt(g.iter().map(|t| (t.mono, t.coef))) { (f, g) } else { (g, f) };
+    for factor in [low, high] {
+        if let Some(quotient) = divide(&n, factor, false) {
+            n = quotient;
+        }
+    }
+    assert!(content(&n) > 0);
+    n
+}
+
 fn form(a: i128, b: i128, c: i128) -> Poly {
     let name = |i: usize, coef| Term { mono: std::array::from_fn(|j| u16::from(i == j)), coef };
     vec![name(0, a), name(1, b), name(2, c), Term { mono: [0; 6], coef: 1 }]
@@ -169,6 +191,7 @@ fn main() {
     for _ in 0..number(3, 1) {
         found = match mode {
             "multiply" => Some(product(&p, &q)),
+            "sum" => Some(fraction_sum(&p, &form(1, 1, 2), &q, &form(2, 1, 1))),
             mode => divide(&whole, &q, mode == "copying"),
         };
     }
