@@ -17,7 +17,7 @@ use Rattle.ct_frac.proofs.Exponents.{exponent_below, exponent_low, tied}
 use Rattle.ct_frac.proofs.JoinedFactors.{same_ok}
 use Rattle.ct_frac.proofs.Products.{times_one, one_times, times_comm, times_left_comm, power-sum}
 
-times_ok : (p q r : Polynomial) → checked_times p q ≡ Ok r → times p q ≡ r
+pub times_ok : (p q r : Polynomial) → checked_times p q ≡ Ok r → times p q ≡ r
 unfolding checked_times
 times_ok p q r fits = verdict_ok _ (times p q) r fits
 

@@ -18,3 +18,5 @@ pub mod CommonDenominators
 pub mod SumLaws
 pub mod ShiftedTerms
 pub mod ShiftedFactors
+pub mod Slopes
+pub mod DerivedFractions

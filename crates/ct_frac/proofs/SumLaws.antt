@@ -18,7 +18,7 @@ use Rattle.ct_frac.specs.declared.factor.Factor.{Factor}
 use Rattle.ct_frac.specs.Arithmetic.{DividesFactors, checked_whole, checked_joined_all, checked_common, checked_cleared, checked_sum, checked_difference, checked_full_product, checked_product, checked_same_value}
 use Rattle.ct_frac.specs.Normal.{normal}
 use Rattle.ct_frac.specs.Written.{Denominator, Written, IsDenominator, IsWritten, product_of, multiplied_out, value, value_over, one_den, whole_polynomial}
-use Rattle.ct_frac.proofs.Clearing.{cleared_ok}
+use Rattle.ct_frac.proofs.Clearing.{times_ok, cleared_ok}
 use Rattle.ct_frac.proofs.CommonDenominators.{common_divided}
 use Rattle.ct_frac.proofs.Denominators.{den_nonzero, number-product}
 use Rattle.ct_frac.proofs.JoinedFactors.{same_ok, joined_all_ok}
@@ -63,13 +63,9 @@ plus_ok : (p q r : Polynomial) → checked_plus p q ≡ Ok r → plus p q ≡ r
 unfolding checked_plus
 plus_ok p q r fits = verdict_ok _ (plus p q) r fits
 
-minus_ok : (p q r : Polynomial) → checked_minus p q ≡ Ok r → minus p q ≡ r
+pub minus_ok : (p q r : Polynomial) → checked_minus p q ≡ Ok r → minus p q ≡ r
 unfolding checked_minus
 minus_ok p q r fits = verdict_ok _ (minus p q) r fits
-
-times_ok : (p q r : Polynomial) → checked_times p q ≡ Ok r → times p q ≡ r
-unfolding checked_times
-times_ok p q r fits = verdict_ok _ (times p q) r fits
 
 pub sum-value : (x y r : Written) → IsWritten x → IsWritten y → checked_sum x y ≡ Ok r → value r ≡ field.◌+◌ (value x) (value y)
 unfolding checked_sum
@@ -85,7 +81,7 @@ sum-value x y r is it answer =
     ∙ (unfold value in added x.numerator y.numerator (multiplied_out x.den) (multiplied_out y.den) (multiplied_out common.value) mine.value its.value
     (den_nonzero x.den is.den) (den_nonzero y.den it.den) (den_nonzero common.value cleared.den) cleared.first cleared.second)
 
-minus_is : (p q : Polynomial) → minus p q ≡ plus p (polys.neg q)
+pub minus_is : (p q : Polynomial) → minus p q ≡ plus p (polys.neg q)
 unfolding minus
 minus_is p q = refl
 

@@ -6,11 +6,12 @@
 //!
 //! A call that can overflow answers the checked computation of `specs/Arithmetic.antt` or `specs/Symbols.antt`, step by
 //! step; the others answer the written form of `specs/Normal.antt`. The value of each is that of the field of fractions
-//! of ct_algebra, with σ for a shift.
+//! of ct_algebra, with σ for a shift and δ for a derivative.
 #![tactic(auto)]
 
 mod clear;
 mod common;
+mod delta;
 mod den;
 mod factor;
 mod frac;

@@ -123,8 +123,8 @@ fn joined(alloc: Global, factors: Vec<Factor>, f: &Factor) -> Result<Vec<Factor>
     }
 }
 
-// A sum of exponents, unless it passes the limit.
-fn exponent_sum(a: u32, b: u32) -> Result<u32, Fault>
+/// A sum of exponents, unless it passes the limit.
+pub fn exponent_sum(a: u32, b: u32) -> Result<u32, Fault>
     ensures { Answers (checked_exponent (a + b)) result }
 {
     let sum = a.saturating_add(b);
