@@ -2,18 +2,17 @@
 -- and `sigma-value`, which `sigma` cites.
 -- Shifted factors are factors, since the shift keeps what makes them so, and differ, since it is injective; so they can be
 -- sorted anew.
-use Rattle.std.specs.Prelude.{◌≡◌, ◌≢◌, refl, ℕ, zero, suc, ◌<◌, ℤ, pos, false, Option, None, Some, Ok, List, [], ◌∷◌}
+use Rattle.std.specs.Prelude.{◌≡◌, refl, ℕ, zero, suc, ◌<◌, ℤ, pos, Option, Some, Ok, List, [], ◌∷◌}
 use Rattle.std.proofs.Common.{Less, sym, ◌∙◌, ap, ap₂, subst}
 use Rattle.std.specs.Int.{IsGcd}
 use Rattle.ct_algebra.specs.Actions.{Action, Shift, sigma, sigma_by}
 use Rattle.ct_algebra.specs.Actions as actions
-use Rattle.ct_algebra.specs.Field.{K, field, plain, coefficients}
-use Rattle.ct_algebra.specs.FieldLaws.{value_of}
+use Rattle.ct_algebra.specs.Field.{plain, coefficients}
 use Rattle.ct_algebra.specs.FractionOre.{sigma_of, σ_value-value}
 use Rattle.ct_algebra.specs.Leading.{leading}
 use Rattle.ct_algebra.specs.Monomial.{Mono, total}
 use Rattle.ct_algebra.specs.Names.{Name}
-use Rattle.ct_algebra.specs.Polynomial.{Polynomial, polys, polys_domain, times, times_is, degree, degree_of}
+use Rattle.ct_algebra.specs.Polynomial.{Polynomial, polys, polys_domain, times, degree, degree_of}
 use Rattle.ct_algebra.specs.Substitution.{number, one_is, shift_ring_hom}
 use Rattle.ct_algebra.proofs.FieldLawProofs.{fractions}
 use Rattle.ct_mono.specs.Checked.{both_fit, verdict_ok}
@@ -24,7 +23,7 @@ use Rattle.ct_poly.proofs.ShiftValues.{shifted-zero}
 use Rattle.ct_frac.specs.declared.factor.Factor.{Factor}
 use Rattle.ct_frac.specs.Normal.{inserted, sorted_onto}
 use Rattle.ct_frac.specs.Symbols.{checked_shifted_factors, checked_sigma}
-use Rattle.ct_frac.specs.Written.{Denominator, Written, IsBase, IsFactor, IsBelow, AreFactors, IsDenominator, IsOne, IsWritten, power, product_of, multiplied_out, value, value_over}
+use Rattle.ct_frac.specs.Written.{Written, IsBase, IsBelow, AreFactors, IsOne, IsWritten, power, product_of, multiplied_out, value}
 use Rattle.ct_frac.proofs.Denominators.{den_nonzero}
 use Rattle.ct_frac.proofs.Exponents.{tied}
 use Rattle.ct_frac.proofs.JoinedFactors.{same_ok}

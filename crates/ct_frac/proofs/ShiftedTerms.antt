@@ -2,7 +2,7 @@
 -- `shift_leads`, `content-shift` and `shift_injective`, which ShiftedFactors cites.
 -- A shifted monomial is itself and lower ones, by induction over products of names; so the first term stays the first. A
 -- number that divides each coefficient is a factor that the shift leaves as it is.
-use Rattle.std.specs.Prelude.{◌≡◌, ◌≢◌, refl, ℕ, zero, suc, ℤ, pos, ◌+ℤ◌, ◌*ℤ◌, neg_ℤ, unsigned_abs, T, true, false, cond, None, Some, List, [], ◌∷◌}
+use Rattle.std.specs.Prelude.{◌≡◌, ◌≢◌, refl, ℕ, zero, suc, ℤ, pos, ◌+ℤ◌, ◌*ℤ◌, neg_ℤ, unsigned_abs, T, Some, List, [], ◌∷◌}
 use Rattle.std.proofs.Common.{Less, sym, ◌∙◌, ap, ap₂, subst}
 use Rattle.std.specs.Int.{◌∣◌}
 use Rattle.std.proofs.lemmas.Int.{unsigned_abs-mul}
@@ -20,7 +20,7 @@ use Rattle.ct_algebra.specs.Ring.{zero_mul}
 use Rattle.ct_algebra.specs.Substitution.{P, term, term_is, name, name_is, number, number_is, number-*, times_one, symbol_term, shift, shift_ring_hom, shift-name}
 use Rattle.ct_algebra.specs.Sums.{at, at-⊕, none, EachTerm-single}
 use Rattle.ct_algebra.specs.Terms.{AllBelow, IsCanonical, EachTerm, is_less, value_at}
-use Rattle.ct_algebra.specs.WholeNumbers.{int_group, int_is_zero, plus_zero}
+use Rattle.ct_algebra.specs.WholeNumbers.{int_group, plus_zero}
 use Rattle.ct_algebra.proofs.LeadingTerms.{leads_of, leading-Leads, Leads-leading}
 use Rattle.ct_algebra.proofs.PolynomialLawProofs.{sums_of_terms}
 use Rattle.ct_algebra.proofs.TermLists.{row_of}

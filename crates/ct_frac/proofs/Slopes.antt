@@ -7,7 +7,7 @@ use Rattle.std.specs.List.{list_any}
 use Rattle.std.proofs.lemmas.Bool.{ltb-false}
 use Rattle.std.proofs.lemmas.Int.{ints}
 use Rattle.ct_algebra.specs.Derivative.{derived, derived-*, zero_term}
-use Rattle.ct_algebra.specs.FreeOf.{IsFreeOf, IsWithout}
+use Rattle.ct_algebra.specs.FreeOf.{IsWithout}
 use Rattle.ct_algebra.specs.Laws.Derivations.{derived-number}
 use Rattle.ct_algebra.specs.Monomial.{Mono, exp, unit}
 use Rattle.ct_algebra.specs.Names.{Name, place}

@@ -1,6 +1,7 @@
 // Written fractions, with values worked by hand.
 ghost use Rattle.std.specs.Prelude.{pos, ◌≤ℤ◌};
 
+use crate::common::wider;
 use crate::{Fault, Frac, Kind, Poly};
 use std::alloc::Global;
 use std::test::Fail;
@@ -109,6 +110,47 @@ fn a_common_denominator_has_the_greatest_exponents(rt: HostRuntime) -> Result<()
     let den = Frac::common(rt.alloc(), list.as_slice())?;
     assert_eq!(rt; den.whole(), 1);
     assert!(rt; den.factors().len() == 1 && den.factors()[0].exp == 2);
+    Ok(())
+}
+
+// the numerator of x over the least denominator that those of both divide
+fn cleared_to_both(alloc: Global, x: &Frac, y: &Frac) -> Result<Poly, Fault> {
+    x.in_written_form();
+    y.in_written_form();
+    let mine = x.den().copy(alloc)?;
+    let den = wider(alloc, mine, y.den())?;
+    x.clear(alloc, &den)
+}
+
+// 1 / (2·(k + 1))
+fn half(alloc: Global) -> Result<Frac, Fault> {
+    let one = quadratic(alloc, 0, 0, 1)?;
+    let d = quadratic(alloc, 0, 2, 2)?;
+    ratio(alloc, &one, &d)
+}
+
+// 1 / (3·(k + 1)²), with one factor
+fn third_of_a_square(alloc: Global) -> Result<Frac, Fault> {
+    let x = reciprocal(alloc, 1)?;
+    let third = unit_fraction(alloc, 3)?;
+    let square = x.mul(alloc, &x)?;
+    square.mul(alloc, &third)
+}
+
+// over 6·(k + 1)² stand 3·(k + 1) and 2
+fn both_are_cleared(alloc: Global, x: &Frac, y: &Frac) -> Result<bool, Fault> {
+    let mine = cleared_to_both(alloc, x, y)?;
+    let its = cleared_to_both(alloc, y, x)?;
+    let n = quadratic(alloc, 0, 3, 3)?;
+    let m = quadratic(alloc, 0, 0, 2)?;
+    Ok(mine.same(&n) && its.same(&m))
+}
+
+#[test]
+fn a_numerator_is_cleared_by_what_its_denominator_lacks(rt: HostRuntime) -> Result<(), Fail> {
+    let x = half(rt.alloc())?;
+    let y = third_of_a_square(rt.alloc())?;
+    assert!(rt; both_are_cleared(rt.alloc(), &x, &y)?);
     Ok(())
 }
 

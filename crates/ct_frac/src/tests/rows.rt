@@ -5,6 +5,7 @@ use crate::{Fault, Frac, Kind, Poly};
 use ct_mono::Monomial;
 use std::alloc::Global;
 
+mod derivatives;
 mod differences;
 mod products;
 mod quotients;
@@ -76,6 +77,8 @@ fn result(
         "product" => x.mul(alloc, &y),
         "sigma of n" => x.sigma(alloc, 0),
         "sigma of k" => x.sigma(alloc, 1),
+        "delta by n" => x.delta(alloc, 0),
+        "delta by k" => x.delta(alloc, 1),
         _ => Ok(x),
     }
 }
