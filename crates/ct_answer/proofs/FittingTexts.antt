@@ -23,6 +23,7 @@ use Rattle.ct_ore.proofs.PairMeasureLaws.{exp-le-total, known_action, no_action}
 use Rattle.ct_answer.specs.declared.factors.Power.{Power}
 use Rattle.ct_answer.specs.Text.{naming_at, power_at, powers_in, names_in, symbols_in}
 use Rattle.ct_answer.specs.ReadBack.{IsNamed, PolynomialFits, OperatorFits}
+use Rattle.ct_answer.proofs.SumMeasures.{size, size-row}
 use Rattle.ct_answer.proofs.SpelledPowers.{PowerFits, Each, Each-append}
 use Rattle.ct_answer.proofs.SpelledSums.{EntryFits}
 use Rattle.ct_answer.proofs.SpelledOperators.{OperatorEntryFits}
@@ -111,7 +112,7 @@ list_fits names operators (e ∷ es) low named small =
       list_fits names operators es low.1 (λ j past. (named j past).1) (omega (arith, sum, small)),
     )
 
-lower : (p : Polynomial) (n : ℕ) → degree p ≤ n → (es : List (Mono × ℤ)) → EachTerm (λ m c. total m ≤ degree p) es → EachTerm (λ m c. total m ≤ n) es
+pub lower : (p : Polynomial) (n : ℕ) → degree p ≤ n → (es : List (Mono × ℤ)) → EachTerm (λ m c. total m ≤ degree p) es → EachTerm (λ m c. total m ≤ n) es
 lower p n le [] each = tt
 lower p n le (e ∷ es) each = let first = each.0 in (omega (arith, first, le), lower p n le es each.1)
 
@@ -124,16 +125,7 @@ entries_fit names operators p fits = polynomial_entries_fit names operators p fi
 
 -- ---- operators
 
-abbrev size : CoefficientTerm → ℕ
-size t = nat_abs t.number
-
-size-row : (m : Mono) (es : List (Mono × ℤ)) → sum_by size (row_of m es) ≡ norm_of es
-size-row m [] = refl
-size-row m (e ∷ es) =
-    sum_by-cons size (record { symbols = m; names = e.0; number = e.1 }) (row_of m es)
-    ∙ ap (λ n. nat_abs e.1 + n) (size-row m es) ∙ sym (sum_by-cons (λ (d : Mono × ℤ). nat_abs d.1) e es)
-
-some_terms : (c : Polynomial) → T (cond (polys.group.is_zero c) false true) → 0 < length c.terms
+pub some_terms : (c : Polynomial) → T (cond (polys.group.is_zero c) false true) → 0 < length c.terms
 some_terms c some = by c.terms some
   where
     by : (es : List (Mono × ℤ)) → T (cond (has_none monomials int_group es) false true) → 0 < length es

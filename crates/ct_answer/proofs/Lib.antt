@@ -5,5 +5,15 @@ pub mod PrintedExpressions
 pub mod SpelledPowers
 pub mod SpelledSums
 pub mod SpelledOperators
+pub mod SumMeasures
 pub mod FittingTexts
 pub mod SpelledTexts
+pub mod PlainProducts
+pub mod PowerMonomials
+pub mod PowerValues
+pub mod TermValues
+pub mod SumValues
+pub mod PolynomialValues
+pub mod OperatorValues
+pub mod FittingValues
+pub mod ReadsBack

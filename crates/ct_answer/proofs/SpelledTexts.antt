@@ -1,11 +1,11 @@
--- What is printed is spelled by the grammar. Main lemmas `polynomials_are_spelled` and `operators_are_spelled`.
+-- What is printed is spelled by the grammar. Main lemmas `polynomial_is_spelled` and `operator_is_spelled`.
 use Rattle.std.proofs.Common.{true, false, List}
 use Rattle.ct_algebra.specs.Polynomial.{Polynomial}
 use Rattle.ct_algebra.specs.Operators.{Operator}
 use Rattle.ct_ore.specs.Naming.{Naming, IsAlgebra}
 use Rattle.ct_problem.specs.Grammar.{IsNested, IsExpression}
 use Rattle.ct_answer.specs.Text.{polynomial_text, operator_text}
-use Rattle.ct_answer.specs.ReadBack.{PolynomialFits, OperatorFits, IsSpelled, PrintedPolynomialsAreSpelled, PrintedOperatorsAreSpelled}
+use Rattle.ct_answer.specs.ReadBack.{PolynomialFits, OperatorFits, IsSpelled}
 use Rattle.ct_answer.proofs.ReadTexts.{Writes-whole}
 use Rattle.ct_answer.proofs.PrintedExpressions.{polynomial_expression, operator_expression}
 use Rattle.ct_answer.proofs.SpelledSums.{Writes-polynomial}
@@ -21,9 +21,3 @@ pub operator_is_spelled : (names : List Naming) (p : Operator) → IsAlgebra nam
 operator_is_spelled names p known fits =
     let all = Writes-whole false true (operator_text names p) (IsExpression names true (operator_expression p)) (Writes-operator names known 63 p (operator_entries_fit names p fits)) in
     record { whole = all.no_bad; stands = all.stands }
-
-pub polynomials_are_spelled : PrintedPolynomialsAreSpelled
-polynomials_are_spelled names p known fits = (polynomial_expression p, polynomial_is_spelled names p known fits)
-
-pub operators_are_spelled : PrintedOperatorsAreSpelled
-operators_are_spelled names p known fits = (operator_expression p, operator_is_spelled names p known fits)

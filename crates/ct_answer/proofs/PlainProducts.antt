@@ -1,0 +1,213 @@
+-- Products in which nothing passes a symbol: by powers of names before symbols, and by powers of symbols behind names.
+-- Main lemmas `times_names` and `times_symbols`: every pair of terms makes one term, so the product is within the limits where
+-- its value is.
+use Rattle.std.proofs.Common.{◌≡◌, ◌≢◌, ◌⊎◌, inl, inr, ℕ, zero, suc, ◌+◌, ◌*◌, ◌^◌, ◌≤◌, ◌<◌, Bool, true, false, cond, eqb, ltb, le-ltb, max, ℤ, pos, nat_abs, List, [], ◌∷◌, ◌++◌, length, map, None, Some, T, Option, Ok, refl, sym, ap, ap₂, ◌∙◌, subst, arith, append-nil, lit<, min}
+use native.Mathlib.Nat.{pow-zero}
+use Rattle.std.specs.List.{sum_by}
+use Rattle.std.proofs.lemmas.List.Sums.{sum_by-cons}
+use Rattle.ct_algebra.specs.Ring.{one_mul}
+use Rattle.ct_algebra.specs.Sums.{none}
+use Rattle.ct_algebra.specs.Monomial.{Mono, monomials, exp, total, mono, unit, ◌·◌, ·_assoc, ·_comm, ·-unit, exp-unit}
+use Rattle.ct_algebra.specs.Names.{Name, x0, x1, x2, x3, x4, x5, place, place_small, symbol, symbols, power, power_unit, power_symbol, by_symbols}
+use Rattle.ct_algebra.specs.Polynomial.{Polynomial, polys, terms-poly_of, times, count, norm, norm_of, degree, degree_of}
+use Rattle.ct_algebra.specs.Substitution.{term, number, number_is, one_is}
+use Rattle.ct_algebra.specs.WholeNumbers.{int_group, int_is_zero}
+use Rattle.ct_algebra.specs.Actions.{Action, Shift, Derive, Still, by_action}
+use Rattle.ct_algebra.specs.Operators.{Operator, term_of, product_of, symbol_before, multiple}
+use Rattle.ct_algebra.proofs.ProductRule.{multiple-term_of, product_of-term_of, product_of-polynomial, multiple-one_term, symbol_before-one, symbols_commute}
+use Rattle.ct_mono.specs.Checked.{verdict}
+use Rattle.ct_mono.specs.Limits.{largest_degree, most_terms, largest_norm}
+use Rattle.ct_poly.specs.Measures.{broken}
+use Rattle.ct_poly.proofs.TermLists.{poly_of-single}
+use Rattle.ct_mono.specs.declared.fault.Kind.{Kind}
+use Rattle.ct_mono.specs.declared.fault.Kind.TheVariants.{Degree, Terms, Number}
+use Rattle.ct_ore.specs.declared.coefficient_term.CoefficientTerm.{CoefficientTerm}
+use Rattle.ct_ore.specs.Measures.{row_of, all_terms, coefficient_terms, term_count, term_norm, greatest, coefficient_degree, order_of, product_count, product_norm, product_overflow, checked_product, count_of_pair, weight_of_pair}
+use Rattle.ct_ore.specs.PairWeights.{over_names, pair_count, pair_weight, derivation_weight, ways_below}
+use Rattle.ct_ore.proofs.OperatorMeasures.{terms-term_of}
+use Rattle.ct_ore.proofs.PairWeightLaws.{derivation_weight-min, power_of_one}
+use Rattle.ct_ore.proofs.ProductRules.{FitsProduct}
+use Rattle.ct_answer.proofs.SumMeasures.{length-row, size-row, size}
+
+-- ---- polynomials of one term
+
+pub terms-term : (n : Mono) (x : ℤ) → T (cond (int_is_zero x) false true) → (term n x).terms ≡ (n, x) ∷ []
+terms-term n x some = ap (λ (p : Polynomial). p.terms) (sym (poly_of-single n x)) ∙ terms-poly_of ((n, x) ∷ []) (some, tt, tt)
+
+pub some_term : (n : Mono) (x : ℤ) → T (cond (int_is_zero x) false true) → term n x ≢ polys.zero
+unfolding none
+some_term n x some absent =
+    let one : (n, x) ∷ [] ≡ polys.zero.terms = sym (terms-term n x some) ∙ ap (λ (p : Polynomial). p.terms) absent in
+    let counted : 1 ≡ 0 = ap (λ (es : List (Mono × ℤ)). length es) one in
+    absurd (omega (arith, counted))
+
+-- ---- the measures of one term
+
+module _ (m : Mono) (c : Polynomial) (some : c ≢ polys.zero) where
+  terms : (term_of m c).terms ≡ (m, c) ∷ []
+  terms = terms-term_of m c some
+
+  pub coefficient_terms-one : coefficient_terms (term_of m c) ≡ row_of m c.terms
+  unfolding coefficient_terms
+  coefficient_terms-one = ap all_terms terms ∙ append-nil (row_of m c.terms)
+
+  pub term_count-one : term_count (term_of m c) ≡ count c
+  unfolding term_count count
+  term_count-one = ap length coefficient_terms-one ∙ length-row m c.terms
+
+  pub term_norm-one : term_norm (term_of m c) ≡ norm c
+  unfolding term_norm norm
+  term_norm-one = ap (sum_by size) coefficient_terms-one ∙ size-row m c.terms
+
+  pub coefficient_degree-one : coefficient_degree (term_of m c) ≡ degree c
+  unfolding coefficient_degree
+  coefficient_degree-one = let e : max (degree c) 0 ≡ degree c = omega arith in ap (λ (es : List (Mono × Polynomial)). greatest (map (λ (e : Mono × Polynomial). degree e.1) es)) terms ∙ e
+
+  pub order_of-one : order_of (term_of m c) ≡ total m
+  unfolding order_of
+  order_of-one = let e : max (total m) 0 ≡ total m = omega arith in ap (λ (es : List (Mono × Polynomial)). greatest (map (λ (e : Mono × Polynomial). total e.0) es)) terms ∙ e
+
+pub total_unit : total unit ≡ 0
+unfolding total unit mono
+total_unit = refl
+
+-- ---- pairs
+
+module _ (a : Name → Action) where
+  no_way_of_none : (e : ℕ) → derivation_weight 0 e ≡ 1
+  unfolding derivation_weight
+  no_way_of_none e = refl
+
+  no_way_of_one : (k : ℕ) → derivation_weight k 0 ≡ 1
+  no_way_of_one k =
+      let least : min k 0 + 1 ≡ 1 = omega arith in
+      derivation_weight-min k 0 ∙ ap (λ (n : ℕ). ways_below n k 0) least
+
+  -- no symbol of a name stands before a power of it
+  one_term_each : (i : Name) (k e : ℕ) → (k ≡ 0) ⊎ (e ≡ 0) → (pair_count a i k e ≡ 1) × (pair_weight a i k e ≡ 1)
+  one_term_each i k e (inl none) = by (a i)
+    where
+      by : (t : Action) → (by_action t (cond (ltb 0 k) (e + 1) 1) (min k e + 1) 1 ≡ 1) × (by_action t ((1 + k) ^ e) (derivation_weight k e) 1 ≡ 1)
+      by Shift = rw none (refl, power_of_one e)
+      by Derive = let least : min 0 e + 1 ≡ 1 = omega arith in rw none (least, no_way_of_none e)
+      by Still = (refl, refl)
+  one_term_each i k e (inr none) = by (a i)
+    where
+      either_way : (b : Bool) → cond b (0 + 1) 1 ≡ 1
+      either_way true = refl
+      either_way false = refl
+
+      by : (t : Action) → (by_action t (cond (ltb 0 k) (e + 1) 1) (min k e + 1) 1 ≡ 1) × (by_action t ((1 + k) ^ e) (derivation_weight k e) 1 ≡ 1)
+      by Shift = rw none (either_way (ltb 0 k), pow-zero (1 + k))
+      by Derive = let least : min k 0 + 1 ≡ 1 = omega arith in rw none (least, no_way_of_one k)
+      by Still = (refl, refl)
+
+  -- of no name do both have a power
+  abbrev Apart : Mono → Mono → Type 0
+  Apart m n = (i : Name) → (exp m (place i) ≡ 0) ⊎ (exp n (place i) ≡ 0)
+
+  pairs_are_one : (m n : Mono) → Apart m n →
+      (over_names (λ i. pair_count a i (exp m (place i)) (exp n (place i))) ≡ 1) × (over_names (λ i. pair_weight a i (exp m (place i)) (exp n (place i))) ≡ 1)
+  pairs_are_one m n apart =
+      let one = λ (i : Name). one_term_each i (exp m (place i)) (exp n (place i)) (apart i) in
+      (rw ((one x0).0, (one x1).0, (one x2).0, (one x3).0, (one x4).0, (one x5).0) refl, rw ((one x0).1, (one x1).1, (one x2).1, (one x3).1, (one x4).1, (one x5).1) refl)
+
+  -- ---- a row of terms, times one term
+
+  abbrev factor : Mono → Mono → CoefficientTerm
+  factor m n = record { symbols = m; names = n; number = pos 1 }
+
+  count_row : (m : Mono) (k : Mono) (n : Mono) → Apart m n → (es : List (Mono × ℤ)) → sum_by (λ s. sum_by (λ t. count_of_pair a s t) (factor k n ∷ [])) (row_of m es) ≡ length es
+  count_row m k n apart [] = refl
+  count_row m k n apart (e ∷ es) =
+      let one = (pairs_are_one m n apart).0 in
+      omega (
+        arith,
+        sum_by-cons (λ (s : CoefficientTerm). sum_by (λ t. count_of_pair a s t) (factor k n ∷ [])) (record { symbols = m; names = e.0; number = e.1 }) (row_of m es),
+        sum_by-cons (λ (t : CoefficientTerm). count_of_pair a (record { symbols = m; names = e.0; number = e.1 }) t) (factor k n) [],
+        one,
+        count_row m k n apart es,
+      )
+
+  weight_row : (m : Mono) (k : Mono) (n : Mono) → Apart m n → (es : List (Mono × ℤ)) → sum_by (λ s. sum_by (λ t. weight_of_pair a s t) (factor k n ∷ [])) (row_of m es) ≡ norm_of es
+  weight_row m k n apart [] = refl
+  weight_row m k n apart (e ∷ es) =
+      let one = (pairs_are_one m n apart).1 in
+      let here : nat_abs e.1 * 1 * over_names (λ i. pair_weight a i (exp m (place i)) (exp n (place i))) ≡ nat_abs e.1 = rw one (omega arith) in
+      omega (
+        arith,
+        sum_by-cons (λ (s : CoefficientTerm). sum_by (λ t. weight_of_pair a s t) (factor k n ∷ [])) (record { symbols = m; names = e.0; number = e.1 }) (row_of m es),
+        sum_by-cons (λ (t : CoefficientTerm). weight_of_pair a (record { symbols = m; names = e.0; number = e.1 }) t) (factor k n) [],
+        here,
+        weight_row m k n apart es,
+        sum_by-cons (λ (d : Mono × ℤ). nat_abs d.1) e es,
+      )
+
+  -- ---- products within the limits
+
+  fitting : (p q : Operator) → FitsProduct a p q → product_overflow a p q ≡ None
+  unfolding product_overflow
+  fitting p q fits =
+      let one = le-ltb largest_degree (coefficient_degree p + coefficient_degree q) fits.degrees in
+      let two = le-ltb largest_degree (order_of p + order_of q) fits.orders in
+      let three = le-ltb most_terms (product_count a p q) fits.count in
+      let four = le-ltb largest_norm (product_norm a p q) fits.norm in
+      rw (one, two, three, four) (by (eqb (length p.terms * length q.terms) 0))
+    where
+      by : (b : Bool) → cond {A = Option Kind} b None None ≡ None
+      by true = refl
+      by false = refl
+
+  times_fits : (p q r : Operator) → FitsProduct a p q → product_of a p q ≡ r → checked_product a p q ≡ Ok r
+  unfolding checked_product verdict
+  times_fits p q r fits value = ap (λ (o : Option Kind). verdict o (product_of a p q)) (fitting p q fits) ∙ ap Ok value
+
+  -- the terms of the second factor
+  second_terms : (k n : Mono) → coefficient_terms (term_of k (term n (pos 1))) ≡ factor k n ∷ []
+  second_terms k n = coefficient_terms-one k (term n (pos 1)) (some_term n (pos 1) tt) ∙ ap (row_of k) (terms-term n (pos 1) tt)
+
+  product_fits : (m k n : Mono) (c : Polynomial) → c ≢ polys.zero → Apart m n → count c ≤ most_terms → norm c ≤ largest_norm → degree c + total n ≤ largest_degree → total m + total k ≤ largest_degree
+      → FitsProduct a (term_of m c) (term_of k (term n (pos 1)))
+  unfolding product_count product_norm count norm degree
+  product_fits m k n c some apart few small low low_order =
+      let first = coefficient_terms-one m c some in
+      let second = second_terms k n in
+      let counted = ap₂ (λ (ts us : List CoefficientTerm). sum_by (λ s. sum_by (λ t. count_of_pair a s t) us) ts) first second ∙ count_row m k n apart c.terms in
+      let weighed = ap₂ (λ (ts us : List CoefficientTerm). sum_by (λ s. sum_by (λ t. weight_of_pair a s t) us) ts) first second ∙ weight_row m k n apart c.terms in
+      let second_degree : degree (term n (pos 1)) ≡ total n = ap degree_of (terms-term n (pos 1) tt) in
+      record {
+        degrees = omega (arith, coefficient_degree-one m c some, coefficient_degree-one k (term n (pos 1)) (some_term n (pos 1) tt), second_degree, low);
+        orders = omega (arith, order_of-one m c some, order_of-one k (term n (pos 1)) (some_term n (pos 1) tt), low_order);
+        count = omega (arith, counted, few);
+        norm = omega (arith, weighed, small);
+      }
+
+  -- ---- what the products are
+
+  apart_at_unit : (n : Mono) → Apart unit n
+  apart_at_unit n i = inl (exp-unit (place i) (place_small i))
+
+  unit_apart : (m : Mono) → Apart m unit
+  unit_apart m i = inr (exp-unit (place i) (place_small i))
+
+  -- a power of names behind a polynomial
+  pub times_names : (n : Mono) (c : Polynomial) → c ≢ polys.zero → count c ≤ most_terms → norm c ≤ largest_norm → degree c + total n ≤ largest_degree
+      → checked_product a (term_of unit c) (term_of unit (term n (pos 1))) ≡ Ok (term_of unit (times c (term n (pos 1))))
+  times_names n c some few small low =
+      times_fits (term_of unit c) (term_of unit (term n (pos 1))) _
+      (product_fits unit unit n c some (apart_at_unit n) few small low (omega (arith, total_unit)))
+      (product_of-polynomial a c _ ∙ multiple-term_of a c unit (term n (pos 1)))
+
+  symbols_before : (k : Mono) (m : Mono) → power (symbol_before a) m (term_of k polys.one) ≡ term_of (m · k) polys.one
+  symbols_before k =
+      by_symbols (λ m. power (symbol_before a) m (term_of k polys.one) ≡ term_of (m · k) polys.one)
+      (power_unit (symbol_before a) _ ∙ ap (λ (n : Mono). term_of n polys.one) (sym (·_comm unit k ∙ ·-unit k)))
+      (λ i m same. power_symbol (symbol_before a) (symbols_commute a) i m _ ∙ ap (symbol_before a i) same ∙ symbol_before-one a i (m · k) ∙ ap (λ (n : Mono). term_of n polys.one) (sym (·_assoc (symbol i) m k)))
+
+  -- a power of symbols behind a term
+  pub times_symbols : (m k : Mono) (c : Polynomial) → c ≢ polys.zero → count c ≤ most_terms → norm c ≤ largest_norm → degree c ≤ largest_degree → total m + total k ≤ largest_degree
+      → checked_product a (term_of m c) (term_of k polys.one) ≡ Ok (term_of (m · k) c)
+  times_symbols m k c some few small low low_order =
+      let fits = product_fits m k unit c some (unit_apart m) few small (omega (arith, low, total_unit)) low_order in
+      times_fits (term_of m c) (term_of k polys.one) (term_of (m · k) c) (subst (λ (d : Polynomial). FitsProduct a (term_of m c) (term_of k d)) (sym (one_is ∙ number_is (pos 1))) fits)
+      (product_of-term_of a m c _ ∙ ap (multiple a c) (symbols_before k m) ∙ multiple-one_term a (m · k) c)

@@ -1,0 +1,40 @@
+-- What is printed is read back. Main lemmas `polynomials_are_read` and `operators_are_read`, which the laws cite.
+use Rattle.std.proofs.Common.{◌≡◌, Ok, List, refl, ap, ◌∙◌}
+use Rattle.ct_algebra.specs.Monomial.{unit}
+use Rattle.ct_algebra.specs.Names.{Name}
+use Rattle.ct_algebra.specs.Polynomial.{Polynomial, norm}
+use Rattle.ct_algebra.specs.Actions.{Action}
+use Rattle.ct_algebra.specs.Operators.{Operator, polynomial_at, term_of}
+use Rattle.ct_algebra.proofs.OperatorTerms.{at-term_of, pick-same}
+use Rattle.ct_mono.specs.Checked.{Checked, ◌>>=◌}
+use Rattle.ct_ore.specs.Naming.{Naming, actions_of}
+use Rattle.ct_problem.specs.Value.{value_of, checked_polynomial}
+use Rattle.ct_answer.specs.ReadBack.{PolynomialFits, OperatorFits, PrintedPolynomialsAreRead, PrintedOperatorsAreRead}
+use Rattle.ct_answer.proofs.PrintedExpressions.{polynomial_expression, operator_expression}
+use Rattle.ct_answer.proofs.SpelledTexts.{polynomial_is_spelled, operator_is_spelled}
+use Rattle.ct_answer.proofs.PolynomialValues.{polynomial_written}
+use Rattle.ct_answer.proofs.OperatorValues.{operator_value}
+use Rattle.ct_answer.proofs.FittingValues.{small_entries, small_operator_entries}
+
+coefficient_of_one : (p : Polynomial) → polynomial_at (term_of unit p) unit ≡ p
+coefficient_of_one p = at-term_of unit unit p ∙ pick-same unit unit p refl
+
+polynomial_value : (a : Name → Action) (names : List Naming) (p : Polynomial) → PolynomialFits names p → checked_polynomial a (polynomial_expression p) ≡ Ok p
+unfolding norm
+polynomial_value a names p fits =
+    ap (λ (c : Checked Operator). c >>= (λ x. Ok (polynomial_at x unit))) (polynomial_written a p (small_entries p fits.low fits.small) fits.few fits.small)
+    ∙ ap Ok (coefficient_of_one p)
+
+pub polynomials_are_read : PrintedPolynomialsAreRead
+polynomials_are_read names p known fits = record {
+  expression = polynomial_expression p;
+  spelled = polynomial_is_spelled names p known fits;
+  value = polynomial_value (actions_of names) names p fits;
+}
+
+pub operators_are_read : PrintedOperatorsAreRead
+operators_are_read names p known fits = record {
+  expression = operator_expression p;
+  spelled = operator_is_spelled names p known fits;
+  value = operator_value (actions_of names) p (small_operator_entries names p fits) fits.few fits.small;
+}

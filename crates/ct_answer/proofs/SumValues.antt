@@ -1,0 +1,222 @@
+-- The values of printed sums. What is summed on the way is no larger than all terms together, so nothing overflows.
+--     TermHas t w k s        the term t with its sign has the value w, of at most k terms and of norm at most s
+--     Adds ts w k s          behind any sum that leaves room, these terms add w
+--     Begins ts w k s        a sum of these terms has the value w, and goes on from it
+-- Main lemmas `Adds-append`, `Begins-append` and `sum_value`.
+use Rattle.std.proofs.Common.{◌≡◌, ℕ, zero, suc, ◌+◌, ◌≤◌, Bool, true, false, cond, ltb, le-ltb, pos, List, [], ◌∷◌, ◌++◌, length, map, None, Some, Option, Ok, Err, refl, sym, ap, ap₂, ◌∙◌, subst, arith}
+use Rattle.std.specs.List.{sum_by}
+use Rattle.std.proofs.lemmas.List.{append_assoc, append-nil}
+use Rattle.ct_algebra.specs.Names.{Name}
+use Rattle.ct_algebra.specs.Actions.{Action}
+use Rattle.ct_algebra.specs.Group.{zero_add, hom_zero}
+use Rattle.ct_algebra.specs.Monomial.{unit}
+use Rattle.ct_algebra.specs.Polynomial.{Polynomial, polys}
+use Rattle.ct_algebra.specs.Substitution.{number_is, term-sum}
+use Rattle.ct_algebra.specs.WholeNumbers.{int_group}
+use Rattle.ct_algebra.specs.Operators.{Operator, operator_group, term_of, no_operator, sum_of_operators, negative}
+use Rattle.ct_algebra.proofs.OperatorTerms.{term_of-zero}
+use Rattle.ct_mono.specs.Checked.{Checked, ◌>>=◌, verdict}
+use Rattle.ct_mono.specs.Limits.{most_terms, largest_norm}
+use Rattle.ct_mono.specs.declared.fault.Kind.{Kind}
+use Rattle.ct_mono.specs.declared.fault.Kind.TheVariants.{Terms, Number}
+use Rattle.ct_poly.specs.Measures.{broken}
+use Rattle.ct_ore.specs.CoefficientTerms.{size_of}
+use Rattle.ct_ore.specs.Measures.{all_terms, coefficient_terms, term_count, term_norm, sum_overflow, checked_sum, checked_difference, difference_of_operators}
+use Rattle.ct_ore.proofs.WrittenOperators.{terms-no_operator}
+use Rattle.ct_problem.specs.declared.expr.Expr.{Expr}
+use Rattle.ct_problem.specs.declared.expr.Expr.TheVariants as e
+use Rattle.ct_problem.specs.declared.expr.Summand.{Summand, roll-Summand, out-Summand}
+use Rattle.ct_problem.specs.Grammar.{Term, summand}
+use Rattle.ct_problem.specs.Grammar as grammar
+use Rattle.ct_problem.specs.Value.{value_of, value_of_term, signed, Signed, sum_from, joined}
+use Rattle.ct_problem.proofs.Values.{value_of-Whole, value_of-Sum, value_of_term-out}
+use Rattle.ct_answer.proofs.SumMeasures.{term_count-sum, term_norm-sum}
+use Rattle.ct_answer.proofs.PrintedExpressions.{sum_expression}
+
+-- ---- sums of operators
+
+pub sum_assoc : (p q r : Operator) → sum_of_operators (sum_of_operators p q) r ≡ sum_of_operators p (sum_of_operators q r)
+unfolding sum_of_operators
+sum_assoc p q r = operator_group.add_assoc p q r
+
+pub sum_none : (p : Operator) → sum_of_operators p no_operator ≡ p
+unfolding sum_of_operators no_operator
+sum_none p = operator_group.add_zero p
+
+pub none_sum : (p : Operator) → sum_of_operators no_operator p ≡ p
+unfolding sum_of_operators no_operator
+none_sum p = zero_add operator_group p
+
+term_count-none : term_count no_operator ≡ 0
+unfolding term_count coefficient_terms
+term_count-none = rw terms-no_operator refl
+
+term_norm-none : term_norm no_operator ≡ 0
+unfolding term_norm coefficient_terms
+term_norm-none = rw terms-no_operator refl
+
+-- a sum with room
+no_overflow : (p q : Operator) → term_count p + term_count q ≤ most_terms → term_norm p + term_norm q ≤ largest_norm → sum_overflow p q ≡ None
+unfolding sum_overflow
+no_overflow p q few small =
+    let one = le-ltb most_terms (term_count p + term_count q) few in
+    let two = le-ltb largest_norm (term_norm p + term_norm q) small in
+    rw (one, two) refl
+
+sum_fits : (p q : Operator) → term_count p + term_count q ≤ most_terms → term_norm p + term_norm q ≤ largest_norm → checked_sum p q ≡ Ok (sum_of_operators p q)
+unfolding checked_sum verdict
+sum_fits p q few small = ap (λ (o : Option Kind). verdict o (sum_of_operators p q)) (no_overflow p q few small)
+
+difference_fits : (p q : Operator) → term_count p + term_count q ≤ most_terms → term_norm p + term_norm q ≤ largest_norm → checked_difference p q ≡ Ok (sum_of_operators p (negative q))
+unfolding checked_difference difference_of_operators verdict
+difference_fits p q few small = ap (λ (o : Option Kind). verdict o (sum_of_operators p (negative q))) (no_overflow p q few small)
+
+-- ---- terms
+
+abbrev pub with_sign : Bool → Operator → Operator
+with_sign true x = negative x
+with_sign false x = x
+
+module _ (a : Name → Action) where
+  pub record TermHas (t : Term) (w : Operator) (k s : ℕ) : Type 0 where
+    pub value : Operator
+    pub evaluates : value_of a t.1 ≡ Ok value
+    pub sign : with_sign t.0 value ≡ w
+    pub few : term_count value ≤ k
+    pub small : term_norm value ≤ s
+    pub few_signed : term_count w ≤ k
+    pub small_signed : term_norm w ≤ s
+
+  -- the terms with their values
+  abbrev pub pairs : List Term → List Signed
+  pairs ts = map (λ (t : Term). (t.0, value_of a t.1)) ts
+
+  pub record AddsTo (ts : List Term) (w : Operator) (k s : ℕ) (so_far : Operator) (rest : List Signed) : Type 0 where
+    pub goes_on : sum_from (Some so_far) (pairs ts ++ rest) ≡ sum_from (Some (sum_of_operators so_far w)) rest
+    pub few : term_count (sum_of_operators so_far w) ≤ term_count so_far + k
+    pub small : term_norm (sum_of_operators so_far w) ≤ term_norm so_far + s
+
+  abbrev pub Adds : List Term → Operator → ℕ → ℕ → Type 0
+  Adds ts w k s = (so_far : Operator) (rest : List Signed) → term_count so_far + k ≤ most_terms → term_norm so_far + s ≤ largest_norm → AddsTo ts w k s so_far rest
+
+  pub record BeginsWith (ts : List Term) (w : Operator) (k s : ℕ) (rest : List Signed) : Type 0 where
+    pub goes_on : sum_from None (pairs ts ++ rest) ≡ sum_from (Some w) rest
+    pub few : term_count w ≤ k
+    pub small : term_norm w ≤ s
+
+  abbrev pub Begins : List Term → Operator → ℕ → ℕ → Type 0
+  Begins ts w k s = (rest : List Signed) → k ≤ most_terms → s ≤ largest_norm → BeginsWith ts w k s rest
+
+  pub record Makes (ts : List Term) (w : Operator) (k s : ℕ) : Type 0 where
+    pub begins : Begins ts w k s
+    pub adds : Adds ts w k s
+
+  -- ---- one term
+
+  joined_value : (so_far : Operator) (negative : Bool) (x w : Operator) → with_sign negative x ≡ w → term_count so_far + term_count x ≤ most_terms → term_norm so_far + term_norm x ≤ largest_norm
+      → joined (Some so_far) negative x ≡ Ok (sum_of_operators so_far w)
+  joined_value so_far true x w sign few small = difference_fits so_far x few small ∙ ap (λ (y : Operator). Ok (sum_of_operators so_far y)) sign
+  joined_value so_far false x w sign few small = sum_fits so_far x few small ∙ ap (λ (y : Operator). Ok (sum_of_operators so_far y)) sign
+
+  first_value : (negative : Bool) (x w : Operator) → with_sign negative x ≡ w → term_count x ≤ most_terms → term_norm x ≤ largest_norm → joined None negative x ≡ Ok w
+  first_value true x w sign few small =
+      difference_fits no_operator x (omega (arith, term_count-none, few)) (omega (arith, term_norm-none, small)) ∙ ap Ok (none_sum (negative x) ∙ sign)
+  first_value false x w sign few small = ap Ok sign
+
+  Adds-one : (t : Term) (w : Operator) (k s : ℕ) → TermHas t w k s → Adds (t ∷ []) w k s
+  unfolding sum_from
+  Adds-one t w k s known so_far rest few small = record {
+    goes_on =
+        ap (λ (c : Checked Operator). c >>= (λ x. joined (Some so_far) t.0 x >>= (λ more. sum_from (Some more) rest))) known.evaluates
+        ∙ ap (λ (c : Checked Operator). c >>= (λ more. sum_from (Some more) rest)) (joined_value so_far t.0 known.value w known.sign (omega (arith, few, known.few)) (omega (arith, small, known.small)));
+    few = omega (arith, term_count-sum so_far w, known.few_signed);
+    small = omega (arith, term_norm-sum so_far w, known.small_signed);
+  }
+
+  Begins-one : (t : Term) (w : Operator) (k s : ℕ) → TermHas t w k s → Begins (t ∷ []) w k s
+  unfolding sum_from
+  Begins-one t w k s known rest few small = record {
+    goes_on =
+        ap (λ (c : Checked Operator). c >>= (λ x. joined None t.0 x >>= (λ more. sum_from (Some more) rest))) known.evaluates
+        ∙ ap (λ (c : Checked Operator). c >>= (λ more. sum_from (Some more) rest)) (first_value t.0 known.value w known.sign (omega (arith, few, known.few)) (omega (arith, small, known.small)));
+    few = known.few_signed;
+    small = known.small_signed;
+  }
+
+  pub Makes-one : (t : Term) (w : Operator) (k s : ℕ) → TermHas t w k s → Makes (t ∷ []) w k s
+  Makes-one t w k s known = record { begins = Begins-one t w k s known; adds = Adds-one t w k s known }
+
+  -- ---- one list of terms after the other
+
+  pub Adds-none : Adds [] no_operator 0 0
+  Adds-none so_far rest few small =
+      let same = sum_none so_far in
+      record {
+        goes_on = ap (λ (x : Operator). sum_from (Some x) rest) (sym same);
+        few = omega (arith, ap term_count same);
+        small = omega (arith, ap term_norm same);
+      }
+
+  pairs-append : (ts us : List Term) (rest : List Signed) → pairs (ts ++ us) ++ rest ≡ pairs ts ++ (pairs us ++ rest)
+  pairs-append [] us rest = refl
+  pairs-append (t ∷ ts) us rest = ap (λ (ps : List Signed). (t.0, value_of a t.1) ∷ ps) (pairs-append ts us rest)
+
+  pub Adds-append : (ts us : List Term) (w v : Operator) (k s l r : ℕ) → Adds ts w k s → Adds us v l r → Adds (ts ++ us) (sum_of_operators w v) (k + l) (s + r)
+  Adds-append ts us w v k s l r first second so_far rest few small =
+      let one = first so_far (pairs us ++ rest) (omega (arith, few)) (omega (arith, small)) in
+      let two = second (sum_of_operators so_far w) rest (omega (arith, few, one.few)) (omega (arith, small, one.small)) in
+      let same = sum_assoc so_far w v in
+      record {
+        goes_on = ap (sum_from (Some so_far)) (pairs-append ts us rest) ∙ one.goes_on ∙ two.goes_on ∙ ap (λ (x : Operator). sum_from (Some x) rest) same;
+        few = omega (arith, one.few, two.few, ap term_count same);
+        small = omega (arith, one.small, two.small, ap term_norm same);
+      }
+
+  Begins-append : (ts us : List Term) (w v : Operator) (k s l r : ℕ) → Begins ts w k s → Adds us v l r → Begins (ts ++ us) (sum_of_operators w v) (k + l) (s + r)
+  Begins-append ts us w v k s l r first second rest few small =
+      let one = first (pairs us ++ rest) (omega (arith, few)) (omega (arith, small)) in
+      let two = second w rest (omega (arith, few, one.few)) (omega (arith, small, one.small)) in
+      record {
+        goes_on = ap (sum_from None) (pairs-append ts us rest) ∙ one.goes_on ∙ two.goes_on;
+        few = omega (arith, one.few, two.few);
+        small = omega (arith, one.small, two.small);
+      }
+
+  pub Makes-append : (ts us : List Term) (w v : Operator) (k s l r : ℕ) → Makes ts w k s → Adds us v l r → Makes (ts ++ us) (sum_of_operators w v) (k + l) (s + r)
+  Makes-append ts us w v k s l r first second = record {
+    begins = Begins-append ts us w v k s l r first.begins second;
+    adds = Adds-append ts us w v k s l r first.adds second;
+  }
+
+  -- ---- the value of a sum
+
+  signed-summands : (ts : List Term) → signed a (map (λ (t : Term). summand t.0 t.1) ts) ≡ pairs ts
+  signed-summands [] = refl
+  signed-summands (t ∷ ts) = ap₂ (λ (p : Signed) (ps : List Signed). p ∷ ps) (value_of_term-out a (summand t.0 t.1)) (signed-summands ts)
+
+  alone : (c : Checked Operator) → c ≡ sum_from None ((false, c) ∷ [])
+  unfolding sum_from
+  alone (Ok x) = refl
+  alone (Err k) = refl
+
+  value-sum_of : (t : Term) (ts : List Term) → value_of a (grammar.sum_of t.0 t.1 ts) ≡ sum_from None (pairs (t ∷ ts))
+  value-sum_of t ts = by t.0 ts
+    where
+      whole : (negative : Bool) (more : List Term) → value_of a (e.Sum (summand negative t.1 ∷ map (λ (u : Term). summand u.0 u.1) more)) ≡ sum_from None ((negative, value_of a t.1) ∷ pairs more)
+      whole negative more = value_of-Sum a _ ∙ ap (sum_from None) (signed-summands ((negative, t.1) ∷ more))
+
+      by : (negative : Bool) (more : List Term) → value_of a (grammar.sum_of negative t.1 more) ≡ sum_from None ((negative, value_of a t.1) ∷ pairs more)
+      by true more = whole true more
+      by false [] = alone (value_of a t.1)
+      by false (u ∷ more) = whole false (u ∷ more)
+
+  pub zero_value : value_of a (e.Whole (pos 0)) ≡ Ok no_operator
+  zero_value =
+      value_of-Whole a (pos 0)
+      ∙ ap (λ (c : Polynomial). Ok (term_of unit c)) (number_is (pos 0) ∙ hom_zero {G = int_group} {H = polys.group} (record { sums = term-sum unit }))
+      ∙ ap Ok (term_of-zero unit)
+
+  pub sum_value : (ts : List Term) (w : Operator) (k s : ℕ) → Begins ts w k s → k ≤ most_terms → s ≤ largest_norm → value_of a (sum_expression ts) ≡ Ok w
+  unfolding sum_from
+  sum_value [] w k s begins few small = zero_value ∙ (begins [] few small).goes_on
+  sum_value (t ∷ ts) w k s begins few small = value-sum_of t ts ∙ ap (sum_from None) (sym (append-nil (pairs (t ∷ ts)))) ∙ (begins [] few small).goes_on
