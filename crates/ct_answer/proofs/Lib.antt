@@ -15,5 +15,6 @@ pub mod TermValues
 pub mod SumValues
 pub mod PolynomialValues
 pub mod OperatorValues
+pub mod OneExpression
 pub mod FittingValues
 pub mod ReadsBack

@@ -1,5 +1,5 @@
 -- What is printed is read back. Main lemmas `polynomials_are_read` and `operators_are_read`, which the laws cite.
-use Rattle.std.proofs.Common.{◌≡◌, Ok, List, refl, ap, ◌∙◌}
+use Rattle.std.proofs.Common.{◌≡◌, Ok, List, true, false, refl, ap, ◌∙◌}
 use Rattle.ct_algebra.specs.Monomial.{unit}
 use Rattle.ct_algebra.specs.Names.{Name}
 use Rattle.ct_algebra.specs.Polynomial.{Polynomial, norm}
@@ -9,9 +9,11 @@ use Rattle.ct_algebra.proofs.OperatorTerms.{at-term_of, pick-same}
 use Rattle.ct_mono.specs.Checked.{Checked, ◌>>=◌}
 use Rattle.ct_ore.specs.Naming.{Naming, actions_of}
 use Rattle.ct_problem.specs.Value.{value_of, checked_polynomial}
+use Rattle.ct_answer.specs.Text.{polynomial_text, operator_text}
 use Rattle.ct_answer.specs.ReadBack.{PolynomialFits, OperatorFits, PrintedPolynomialsAreRead, PrintedOperatorsAreRead}
 use Rattle.ct_answer.proofs.PrintedExpressions.{polynomial_expression, operator_expression}
 use Rattle.ct_answer.proofs.SpelledTexts.{polynomial_is_spelled, operator_is_spelled}
+use Rattle.ct_answer.proofs.OneExpression.{one_expression, is_operator, is_polynomial}
 use Rattle.ct_answer.proofs.PolynomialValues.{polynomial_written}
 use Rattle.ct_answer.proofs.OperatorValues.{operator_value}
 use Rattle.ct_answer.proofs.FittingValues.{small_entries, small_operator_entries}
@@ -29,6 +31,8 @@ pub polynomials_are_read : PrintedPolynomialsAreRead
 polynomials_are_read names p known fits = record {
   expression = polynomial_expression p;
   spelled = polynomial_is_spelled names p known fits;
+  only = λ x spelled. one_expression names false (polynomial_text names p) x (polynomial_expression p) spelled (polynomial_is_spelled names p known fits);
+  evaluable = is_polynomial names (polynomial_text names p) (polynomial_expression p) known (polynomial_is_spelled names p known fits);
   value = polynomial_value (actions_of names) names p fits;
 }
 
@@ -36,5 +40,7 @@ pub operators_are_read : PrintedOperatorsAreRead
 operators_are_read names p known fits = record {
   expression = operator_expression p;
   spelled = operator_is_spelled names p known fits;
+  only = λ x spelled. one_expression names true (operator_text names p) x (operator_expression p) spelled (operator_is_spelled names p known fits);
+  evaluable = is_operator names (operator_text names p) (operator_expression p) known (operator_is_spelled names p known fits);
   value = operator_value (actions_of names) p (small_operator_entries names p fits) fits.few fits.small;
 }

@@ -2,7 +2,7 @@
 --     PolynomialFits names p              the polynomial is within the limits, and contains only names of the list
 --     OperatorFits names p                so is the operator, and its symbols are those of names that have one
 --     IsSpelled names operators x text    each byte of the text stands in a token or a gap, and the tokens are an EXPR for x
---     PolynomialIsRead names p, OperatorIsRead names p    what is printed is spelled so for an x that has the value that was printed
+--     PolynomialIsRead names p, OperatorIsRead names p    what is printed is spelled so for one x alone, of the value that was printed
 --     PrintedPolynomialsAreRead, PrintedOperatorsAreRead  that is so of all that fit
 -- The limits are those that polynomials and operators of the code keep to.
 use Rattle.std.specs.Prelude.{◌≡◌, ◌≤◌, ℕ, Bool, true, false, List, length, None, Ok}
@@ -19,6 +19,7 @@ use Rattle.ct_problem.specs.declared.expr.Expr.{Expr}
 use Rattle.ct_problem.specs.Lexemes.{lexemes}
 use Rattle.ct_problem.specs.Grammar.{IsExpression}
 use Rattle.ct_problem.specs.Value.{value_of, checked_polynomial}
+use Rattle.ct_problem.specs.WellFormed.{IsOperator, IsPolynomial}
 use Rattle.ct_answer.specs.Text.{polynomial_text, operator_text}
 
 -- no name past the list stands in the polynomial
@@ -43,15 +44,19 @@ pub record IsSpelled (names : List Naming) (operators : Bool) (x : Expr) (text :
   pub whole : (scan_of text 0).bad ≡ None
   pub stands : IsExpression names operators x (lexemes text (scan_of text 0).tokens)
 
--- what is printed of the polynomial is spelled, and has its value
+-- what is printed of the polynomial stands for one expression, which can be evaluated and has its value
 pub record PolynomialIsRead (names : List Naming) (p : Polynomial) : Type 0 where
   pub expression : Expr
   pub spelled : IsSpelled names false expression (polynomial_text names p)
+  pub only : (x : Expr) → IsSpelled names false x (polynomial_text names p) → x ≡ expression
+  pub evaluable : IsPolynomial expression
   pub value : checked_polynomial (actions_of names) expression ≡ Ok p
 
 pub record OperatorIsRead (names : List Naming) (p : Operator) : Type 0 where
   pub expression : Expr
   pub spelled : IsSpelled names true expression (operator_text names p)
+  pub only : (x : Expr) → IsSpelled names true x (operator_text names p) → x ≡ expression
+  pub evaluable : IsOperator expression
   pub value : value_of (actions_of names) expression ≡ Ok p
 
 abbrev pub PrintedPolynomialsAreRead : Type 0
