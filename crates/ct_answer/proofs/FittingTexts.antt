@@ -1,7 +1,7 @@
 -- What is within the limits and has the names of the list is as the grammar wants it. Main lemmas `entries_fit` and
 -- `operator_entries_fit`: exponents are at most the degree, and numbers at most the norm.
-use Rattle.std.proofs.Common.{◌≡◌, ◌≢◌, ℕ, zero, suc, ◌+◌, ◌<◌, ◌≤◌, Bool, true, false, cond, T, ℤ, pos, negsuc, nat_abs, max, List, [], ◌∷◌, ◌++◌, length, get_or, IsTrue, Some, None, refl, sym, ap, ◌∙◌, subst, arith, map, nat_lt, rules, tests}
-use Rattle.std.specs.List.{sum_by, flat_map, slice_get}
+use Rattle.std.proofs.Common.{◌≡◌, ◌≢◌, ℕ, zero, suc, ◌<◌, ◌≤◌, Bool, true, false, cond, T, ℤ, pos, negsuc, nat_abs, List, [], ◌∷◌, length, Some, refl, ◌∙◌, subst, arith, map, nat_lt, rules, tests}
+use Rattle.std.specs.List.{sum_by, slice_get}
 use Rattle.std.specs.Prelude.{unsigned_abs}
 use Rattle.std.proofs.lemmas.List.Sums.{sum_by-cons, sum_by-append}
 use Rattle.std.proofs.lemmas.Bool.{false≢true}
@@ -12,13 +12,12 @@ use Rattle.ct_algebra.specs.Sums.{has_none}
 use Rattle.ct_algebra.specs.Terms.{EachTerm, IsCanonical}
 use Rattle.ct_algebra.specs.Polynomial.{Polynomial, polys, norm, norm_of, degree, degree_greatest}
 use Rattle.ct_algebra.specs.Operators.{Operator}
-use Rattle.ct_algebra.specs.FreeOf.{IsWithout, IsOver}
+use Rattle.ct_algebra.specs.FreeOf.{IsWithout}
 use Rattle.ct_algebra.specs.WholeNumbers.{int_group}
-use Rattle.ct_mono.specs.Limits.{largest_degree, most_terms, largest_norm}
+use Rattle.ct_mono.specs.Limits.{largest_degree, largest_norm}
 use Rattle.ct_mono.proofs.ExponentLaws.{place-name_with}
 use Rattle.ct_ore.specs.Naming.{Naming, actions_of}
 use Rattle.ct_ore.specs.Measures.{row_of, all_terms, greatest, coefficient_terms, term_norm, coefficient_degree, order_of}
-use Rattle.ct_ore.specs.declared.coefficient_term.CoefficientTerm.{CoefficientTerm}
 use Rattle.ct_ore.proofs.PairMeasureLaws.{exp-le-total, known_action, no_action}
 use Rattle.ct_answer.specs.declared.factors.Power.{Power}
 use Rattle.ct_answer.specs.Text.{naming_at, power_at, powers_in, names_in, symbols_in}

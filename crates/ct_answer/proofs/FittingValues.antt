@@ -1,5 +1,5 @@
 -- What is within the limits has terms within the limits. Main lemmas `small_entries` and `small_operator_entries`.
-use Rattle.std.proofs.Common.{◌≡◌, ℕ, ◌+◌, ◌≤◌, ◌<◌, ℤ, nat_abs, max, List, [], ◌∷◌, length, map, sym, ap, ◌∙◌, arith, length-append}
+use Rattle.std.proofs.Common.{◌≤◌, ◌<◌, ℤ, nat_abs, List, [], ◌∷◌, length, map, ap, arith, length-append}
 use Rattle.std.specs.List.{sum_by}
 use Rattle.std.proofs.lemmas.List.Sums.{sum_by-cons, sum_by-append}
 use Rattle.ct_algebra.specs.Sums.{none}

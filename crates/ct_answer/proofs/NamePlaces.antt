@@ -1,5 +1,5 @@
 -- The names of an algebra as the reader finds them: the first of its letters. Main lemmas `is_variable` and `is_acting`.
-use Rattle.std.proofs.Common.{◌≡◌, ◌≢◌, ℕ, zero, suc, ◌+◌, ◌<◌, ◌≤◌, ◌&&◌, Bool, true, false, cond, List, [], ◌∷◌, length, get_or, Some, None, IsTrue, refl, sym, ap, ◌∙◌, subst, arith, codes}
+use Rattle.std.proofs.Common.{◌≡◌, ◌≢◌, ℕ, zero, suc, ◌+◌, ◌<◌, Bool, true, false, List, [], ◌∷◌, length, Some, None, IsTrue, refl, ap, ◌∙◌, arith}
 use Rattle.std.specs.List.{position, position_from, list_all}
 use Rattle.std.specs.Str.{bytes_eq}
 use Rattle.std.proofs.lemmas.Iterator.Adapters.{position_from-zero}
@@ -8,7 +8,7 @@ use Rattle.ct_token.specs.Lexical as lexical
 use Rattle.ct_token.specs.Lexing as lexing
 use Rattle.ct_algebra.specs.Actions as actions
 use Rattle.ct_ore.specs.Naming.{Naming, IsNaming, EachIsNaming, IsOtherText, TextsDiffer, IsAlgebra, IsWord, are_word_bytes}
-use Rattle.ct_problem.specs.DeclaredNames.{is_named, same_action, is_wanted}
+use Rattle.ct_problem.specs.DeclaredNames.{same_action, is_wanted}
 use Rattle.ct_problem.specs.Grammar.{IsVariable, IsActing}
 use Rattle.ct_problem.proofs.Values.{both}
 use Rattle.ct_answer.specs.Text.{naming_at}

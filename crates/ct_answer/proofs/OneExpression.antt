@@ -1,6 +1,6 @@
 -- A text stands for one expression at most, whose value can be asked for. Main lemmas `one_expression`, `is_operator` and
 -- `is_polynomial`: the reader reads it from the tokens.
-use Rattle.std.proofs.Common.{◌≡◌, ℕ, Bool, true, false, List, [], ◌∷◌, Some, refl, sym, ap, ◌∙◌}
+use Rattle.std.proofs.Common.{◌≡◌, ℕ, Bool, true, false, List, [], Some, refl, sym, ap, ◌∙◌}
 use Rattle.std.proofs.lemmas.List.{append-nil}
 use Rattle.ct_token.specs.Lexical.{scan_of}
 use Rattle.ct_token.proofs.TokenPlaces.{scans_are_tokens}

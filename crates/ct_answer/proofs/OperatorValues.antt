@@ -1,23 +1,20 @@
 -- The value of what is printed of an operator, coefficient after coefficient. Main lemma `operator_value`.
 --     IsSmallOperatorEntry e     a term of an operator within the limits
-use Rattle.std.proofs.Common.{◌≡◌, ◌≢◌, ℕ, zero, suc, ◌+◌, ◌≤◌, ◌<◌, Bool, true, false, cond, T, ℤ, pos, nat_abs, max, List, [], ◌∷◌, ◌++◌, length, map, None, Some, Ok, refl, sym, ap, ap₂, ◌∙◌, subst, arith}
-use Rattle.std.specs.List.{sum_by, flat_map}
+use Rattle.std.proofs.Common.{◌≡◌, ℕ, ◌+◌, ◌≤◌, ◌<◌, true, ℤ, nat_abs, List, [], ◌∷◌, ◌++◌, length, Ok, refl, sym, ap, ◌∙◌, subst, arith}
+use Rattle.std.specs.List.{sum_by}
 use Rattle.std.proofs.lemmas.List.{length-append}
 use Rattle.std.proofs.lemmas.List.Sums.{sum_by-cons, sum_by-append}
 use Rattle.ct_algebra.specs.Sums.{same_terms}
-use Rattle.ct_algebra.specs.Terms.{EachTerm, IsCanonical}
 use Rattle.ct_algebra.specs.Monomial.{Mono, monomials, total, unit}
 use Rattle.ct_algebra.specs.Names.{Name}
-use Rattle.ct_algebra.specs.Polynomial.{Polynomial, polys, count, norm, norm_of, degree, degree_greatest}
-use Rattle.ct_algebra.specs.Substitution.{term, number_is}
-use Rattle.ct_algebra.specs.WholeNumbers.{int_group, int_is_zero}
+use Rattle.ct_algebra.specs.Polynomial.{Polynomial, count, norm, norm_of}
+use Rattle.ct_algebra.specs.Substitution.{term}
+use Rattle.ct_algebra.specs.WholeNumbers.{int_group}
 use Rattle.ct_algebra.specs.Actions.{Action}
-use Rattle.ct_algebra.specs.Operators.{Operator, no_operator, sum_of_operators, term_of, operator_of}
-use Rattle.ct_algebra.proofs.OperatorTerms.{term_of-zero}
+use Rattle.ct_algebra.specs.Operators.{Operator, term_of, operator_of}
 use Rattle.ct_algebra.proofs.OperatorLawProofs as operator_laws
 use Rattle.ct_mono.specs.Limits.{largest_degree, most_terms, largest_norm}
-use Rattle.ct_ore.specs.Measures.{row_of, all_terms, greatest, coefficient_terms, term_count, term_norm}
-use Rattle.ct_problem.specs.Grammar.{Term}
+use Rattle.ct_ore.specs.Measures.{row_of, all_terms, coefficient_terms, term_count, term_norm}
 use Rattle.ct_problem.specs.Value.{value_of}
 use Rattle.ct_answer.specs.declared.factors.Power.{Power}
 use Rattle.ct_answer.specs.Text.{names_in, symbols_in}

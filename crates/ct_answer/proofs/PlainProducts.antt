@@ -1,26 +1,23 @@
 -- Products in which nothing passes a symbol: by powers of names before symbols, and by powers of symbols behind names.
 -- Main lemmas `times_names` and `times_symbols`: every pair of terms makes one term, so the product is within the limits where
 -- its value is.
-use Rattle.std.proofs.Common.{◌≡◌, ◌≢◌, ◌⊎◌, inl, inr, ℕ, zero, suc, ◌+◌, ◌*◌, ◌^◌, ◌≤◌, ◌<◌, Bool, true, false, cond, eqb, ltb, le-ltb, max, ℤ, pos, nat_abs, List, [], ◌∷◌, ◌++◌, length, map, None, Some, T, Option, Ok, refl, sym, ap, ap₂, ◌∙◌, subst, arith, append-nil, lit<, min}
+use Rattle.std.proofs.Common.{◌≡◌, ◌≢◌, ◌⊎◌, inl, inr, ℕ, ◌+◌, ◌*◌, ◌^◌, ◌≤◌, Bool, true, false, cond, eqb, ltb, le-ltb, max, ℤ, pos, nat_abs, List, [], ◌∷◌, length, map, None, T, Option, Ok, refl, sym, ap, ap₂, ◌∙◌, subst, arith, append-nil, min}
 use native.Mathlib.Nat.{pow-zero}
 use Rattle.std.specs.List.{sum_by}
 use Rattle.std.proofs.lemmas.List.Sums.{sum_by-cons}
-use Rattle.ct_algebra.specs.Ring.{one_mul}
 use Rattle.ct_algebra.specs.Sums.{none}
-use Rattle.ct_algebra.specs.Monomial.{Mono, monomials, exp, total, mono, unit, ◌·◌, ·_assoc, ·_comm, ·-unit, exp-unit}
-use Rattle.ct_algebra.specs.Names.{Name, x0, x1, x2, x3, x4, x5, place, place_small, symbol, symbols, power, power_unit, power_symbol, by_symbols}
+use Rattle.ct_algebra.specs.Monomial.{Mono, exp, total, mono, unit, ◌·◌, ·_assoc, ·_comm, ·-unit, exp-unit}
+use Rattle.ct_algebra.specs.Names.{Name, x0, x1, x2, x3, x4, x5, place, place_small, symbol, power, power_unit, power_symbol, by_symbols}
 use Rattle.ct_algebra.specs.Polynomial.{Polynomial, polys, terms-poly_of, times, count, norm, norm_of, degree, degree_of}
-use Rattle.ct_algebra.specs.Substitution.{term, number, number_is, one_is}
-use Rattle.ct_algebra.specs.WholeNumbers.{int_group, int_is_zero}
+use Rattle.ct_algebra.specs.Substitution.{term, number_is, one_is}
+use Rattle.ct_algebra.specs.WholeNumbers.{int_is_zero}
 use Rattle.ct_algebra.specs.Actions.{Action, Shift, Derive, Still, by_action}
 use Rattle.ct_algebra.specs.Operators.{Operator, term_of, product_of, symbol_before, multiple}
 use Rattle.ct_algebra.proofs.ProductRule.{multiple-term_of, product_of-term_of, product_of-polynomial, multiple-one_term, symbol_before-one, symbols_commute}
 use Rattle.ct_mono.specs.Checked.{verdict}
 use Rattle.ct_mono.specs.Limits.{largest_degree, most_terms, largest_norm}
-use Rattle.ct_poly.specs.Measures.{broken}
 use Rattle.ct_poly.proofs.TermLists.{poly_of-single}
 use Rattle.ct_mono.specs.declared.fault.Kind.{Kind}
-use Rattle.ct_mono.specs.declared.fault.Kind.TheVariants.{Degree, Terms, Number}
 use Rattle.ct_ore.specs.declared.coefficient_term.CoefficientTerm.{CoefficientTerm}
 use Rattle.ct_ore.specs.Measures.{row_of, all_terms, coefficient_terms, term_count, term_norm, greatest, coefficient_degree, order_of, product_count, product_norm, product_overflow, checked_product, count_of_pair, weight_of_pair}
 use Rattle.ct_ore.specs.PairWeights.{over_names, pair_count, pair_weight, derivation_weight, ways_below}

@@ -1,38 +1,31 @@
 -- The value of what is printed of a polynomial, term after term. Main lemmas `Makes-polynomial` and `written_value`.
 --     IsSmallEntry e       a term of a polynomial within the limits
-use Rattle.std.proofs.Common.{◌≡◌, ◌≢◌, ℕ, zero, suc, ◌+◌, ◌≤◌, ◌<◌, Bool, true, false, cond, T, ℤ, pos, negsuc, nat_abs, neg_ℤ, List, [], ◌∷◌, ◌++◌, length, map, None, Some, Ok, refl, sym, ap, ap₂, ◌∙◌, subst, arith}
-use Rattle.std.specs.List.{sum_by, flat_map}
-use Rattle.std.specs.Prelude.{unsigned_abs}
-use Rattle.std.proofs.lemmas.List.{append-nil, length-append}
-use Rattle.std.proofs.lemmas.List.Sums.{sum_by-cons, sum_by-append}
+use Rattle.std.proofs.Common.{◌≡◌, ℕ, zero, suc, ◌+◌, ◌≤◌, ◌<◌, true, false, cond, T, ℤ, pos, negsuc, nat_abs, List, [], ◌∷◌, ◌++◌, length, Ok, refl, sym, ap, ◌∙◌, subst, arith}
+use Rattle.std.proofs.lemmas.List.{append-nil}
+use Rattle.std.proofs.lemmas.List.Sums.{sum_by-cons}
 use Rattle.ct_algebra.specs.Group.{hom_neg}
-use Rattle.ct_algebra.specs.Sums.{same_terms}
-use Rattle.ct_algebra.specs.Terms.{IsCanonical, EachTerm}
-use Rattle.ct_algebra.specs.Monomial.{Mono, monomials, total, unit}
+use Rattle.ct_algebra.specs.Monomial.{Mono, total, unit}
 use Rattle.ct_algebra.specs.Names.{Name}
-use Rattle.ct_algebra.specs.Polynomial.{Polynomial, polys, plus, poly_of, terms-poly_of, count, norm, norm_of, degree, degree_of, degree_greatest}
+use Rattle.ct_algebra.specs.Polynomial.{Polynomial, polys, plus, poly_of, count, norm, norm_of}
 use Rattle.ct_algebra.specs.Substitution.{term}
-use Rattle.ct_algebra.specs.WholeNumbers.{int_group, int_is_zero}
+use Rattle.ct_algebra.specs.WholeNumbers.{int_is_zero}
 use Rattle.ct_algebra.specs.Actions.{Action}
-use Rattle.ct_algebra.specs.Operators.{Operator, operator_group, no_operator, sum_of_operators, negative, term_of, operator_of, polynomial_at}
+use Rattle.ct_algebra.specs.Operators.{Operator, operator_group, sum_of_operators, negative, term_of}
 use Rattle.ct_algebra.proofs.OperatorTerms.{negatives_are, term_of-sum, term_of-zero, term_of_hom}
 use Rattle.ct_algebra.proofs.PolynomialLawProofs as polynomial_laws
 use Rattle.ct_mono.specs.Limits.{largest_degree, most_terms, largest_norm}
 use Rattle.ct_poly.proofs.DivisionSteps.{term-neg}
 use Rattle.ct_poly.proofs.TermLists.{rebuilt}
-use Rattle.ct_ore.specs.Measures.{row_of, all_terms, term_count, term_norm}
-use Rattle.ct_problem.specs.Grammar.{Term}
 use Rattle.ct_problem.specs.Value.{value_of}
 use Rattle.ct_answer.specs.declared.factors.Power.{Power}
-use Rattle.ct_answer.specs.Text.{names_in, symbols_in, is_negative}
+use Rattle.ct_answer.specs.Text.{names_in}
 use Rattle.ct_answer.proofs.SpelledPowers.{Each}
-use Rattle.ct_answer.proofs.SumMeasures.{size, length-row, size-row}
 use Rattle.ct_answer.proofs.PlainProducts.{terms-term, total_unit, term_count-one, term_norm-one}
 use Rattle.ct_answer.proofs.PowerMonomials.{all_of, all_of-powers, all_are}
-use Rattle.ct_answer.proofs.PowerValues.{IsSmall, small_term}
-use Rattle.ct_answer.proofs.TermValues.{term_value, before_symbols_value}
+use Rattle.ct_answer.proofs.PowerValues.{small_term}
+use Rattle.ct_answer.proofs.TermValues.{term_value}
 use Rattle.ct_answer.proofs.SumValues.{TermHas, Adds, Makes, Makes-one, Makes-append, Adds-none, sum_value, zero_value}
-use Rattle.ct_answer.proofs.PrintedExpressions.{signed_expression, term_expression, entry_expression, entry_expressions, before_symbols, product_expressions, operator_entry_expressions, operator_expressions, sum_expression, power_expressions}
+use Rattle.ct_answer.proofs.PrintedExpressions.{signed_expression, term_expression, entry_expression, entry_expressions, sum_expression}
 
 -- ---- terms of polynomials
 

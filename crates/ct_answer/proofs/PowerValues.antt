@@ -1,28 +1,24 @@
 -- The values of printed powers and of products of them. Main lemmas `power_value`, `names_value` and `symbols_value`.
 --     IsSmall c            a polynomial within the limits that is not zero
-use Rattle.std.proofs.Common.{◌≡◌, ◌≢◌, ℕ, zero, suc, ◌+◌, ◌*◌, ◌≤◌, ◌<◌, ◌==◌, Bool, true, false, cond, eqb, T, ℤ, pos, nat_abs, ◌*ℤ◌, List, [], ◌∷◌, ◌++◌, length, map, None, Some, Ok, refl, sym, ap, ap₂, ◌∙◌, subst, arith, eqb-true, eq-eqb, ne_eqb, ltb, le-ltb, lt-ltb, ltb-true, ltb-false}
-use Rattle.std.proofs.lemmas.Bool.{false≢true}
+use Rattle.std.proofs.Common.{◌≡◌, ◌≢◌, ℕ, zero, suc, ◌+◌, ◌≤◌, ◌==◌, Bool, true, false, cond, T, ℤ, pos, nat_abs, ◌*ℤ◌, List, [], ◌∷◌, ◌++◌, length, Some, Ok, refl, sym, ap, ◌∙◌, subst, arith, eqb-true}
 use Rattle.std.proofs.lemmas.Int.{ints}
-use Rattle.ct_algebra.specs.Monomial.{Mono, monomials, exp, total, total-·, unit, ◌·◌, ·_assoc, ·_comm, ·-unit, exp-unit, exp-·, same_mono}
-use Rattle.ct_algebra.specs.Names.{Name, place, symbol, name_with, exp-symbol}
+use Rattle.ct_algebra.specs.Monomial.{Mono, total, total-·, unit, ◌·◌, ·_assoc, ·_comm, ·-unit}
+use Rattle.ct_algebra.specs.Names.{Name, symbol, name_with}
 use Rattle.ct_algebra.specs.Polynomial.{Polynomial, polys, times, times_is, count, norm, norm_of, degree, degree_of}
-use Rattle.ct_algebra.specs.Substitution.{term, number, name, number_is, name_is, one_is, term-*}
-use Rattle.ct_algebra.specs.WholeNumbers.{int_group, int_is_zero}
+use Rattle.ct_algebra.specs.Substitution.{term, number_is, name_is, one_is, term-*}
+use Rattle.ct_algebra.specs.WholeNumbers.{int_is_zero}
 use Rattle.ct_algebra.specs.Actions.{Action}
 use Rattle.ct_algebra.specs.Operators.{Operator, term_of}
 use Rattle.ct_mono.specs.Checked.{Checked, ◌>>=◌}
 use Rattle.ct_mono.specs.Limits.{largest_degree, most_terms, largest_norm}
-use Rattle.ct_mono.proofs.ExponentLaws.{place-name_with}
 use Rattle.ct_ore.specs.Measures.{checked_product}
-use Rattle.ct_problem.specs.declared.expr.Expr.{Expr}
 use Rattle.ct_problem.specs.declared.expr.Expr.TheVariants as e
-use Rattle.ct_problem.specs.Value.{value_of, values, product_from, power_from, one_operator, operator_of_polynomial}
+use Rattle.ct_problem.specs.Value.{value_of, values, product_from, power_from, one_operator}
 use Rattle.ct_problem.proofs.Values.{value_of-Name, value_of-Symbol, value_of-Power}
 use Rattle.ct_answer.specs.declared.factors.Power.{Power}
-use Rattle.ct_answer.specs.Text.{power_at, powers_in}
-use Rattle.ct_answer.proofs.SpelledPowers.{Each, Each-append}
+use Rattle.ct_answer.proofs.SpelledPowers.{Each}
 use Rattle.ct_answer.proofs.PowerMonomials.{raised, raised-one, monomial_of, all_of}
-use Rattle.ct_answer.proofs.PrintedExpressions.{base_expression, power_expression, power_expressions}
+use Rattle.ct_answer.proofs.PrintedExpressions.{power_expression, power_expressions}
 use Rattle.ct_answer.proofs.PlainProducts.{terms-term, some_term, total_unit, times_names, times_symbols}
 
 -- ---- polynomials within the limits

@@ -3,7 +3,7 @@
 --     term_expression n ps           a number and powers; 1 is left out before a power
 --     sum_expression ts              the sum of terms with their signs; zero where there is none
 --     polynomial_expression, operator_expression    as `specs/Text.antt` writes them
-use Rattle.std.proofs.Common.{ℕ, ◌==◌, Bool, true, false, cond, ℤ, pos, List, [], ◌∷◌, ◌++◌, map}
+use Rattle.std.proofs.Common.{ℕ, ◌==◌, false, ℤ, pos, List, [], ◌∷◌, ◌++◌, map}
 use Rattle.std.specs.List.{flat_map}
 use Rattle.std.specs.Prelude.{unsigned_abs, if◌then◌else◌}
 use Rattle.ct_algebra.specs.Monomial.{Mono}

@@ -3,8 +3,8 @@
 --     Writes begin end text T     some lexemes of the set T are read from the text, whatever stands behind; where `end`, no letter,
 --                                 digit or `_` may stand there, and where `begin`, none stands at the front
 -- Main lemma `Writes-joined`: pieces one after the other.
-use Rattle.std.proofs.Common.{◌≡◌, ◌≢◌, ℕ, zero, suc, ◌+◌, ◌-◌, ◌*◌, ◌^◌, ◌<◌, ◌≤◌, ◌==◌, fold, Bool, true, false, ◌||◌, Option, Some, None, List, [], ◌∷◌, ◌++◌, length, take, drop, IsTrue, refl, sym, ap, ap₂, ◌∙◌, subst, arith, append_assoc, length-append, map}
-use Rattle.std.specs.List.{list_all, flat_map}
+use Rattle.std.proofs.Common.{◌≡◌, ℕ, ◌+◌, ◌-◌, ◌*◌, ◌^◌, ◌<◌, ◌≤◌, ◌==◌, fold, Bool, true, false, ◌||◌, None, List, [], ◌∷◌, ◌++◌, length, take, drop, IsTrue, refl, sym, ap, ap₂, ◌∙◌, subst, arith, append_assoc, length-append}
+use Rattle.std.specs.List.{list_all}
 use Rattle.std.specs.Fmt as fmt
 use Rattle.std.proofs.lemmas.List.{append-nil, drop-drop, take-append-le, drop-append-le, take_all, drop_all}
 use Rattle.std.proofs.lemmas.Fmt.{decimal_is_IsNumeral_wide}
@@ -14,8 +14,7 @@ use Rattle.std.proofs.lemmas.Str.Parse.{digit_from_value}
 use Rattle.std.proofs.lemmas.Str.{digit_value_digit}
 use Rattle.ct_token.specs.declared.token.Symbol.{Symbol}
 use Rattle.ct_token.specs.declared.token.Symbol.TheVariants as symbol
-use Rattle.ct_token.specs.declared.token.Token.{Token}
-use Rattle.ct_token.specs.Lexical.{is_digit, is_word_byte, is_letter, Scanned, Piece, Gap, Lexeme, piece_of, scanned, scan_of, is_line_end, with_piece, fresh_after}
+use Rattle.ct_token.specs.Lexical.{is_digit, is_word_byte, is_letter, Scanned, Gap, Lexeme, piece_of, scanned, scan_of, is_line_end, with_piece}
 use Rattle.ct_token.specs.Lexing.{Stops, IsWord, slice}
 use Rattle.ct_token.proofs.Scanning.{scanned-piece}
 use Rattle.ct_problem.specs.Lexemes.{Texts, nothing, one, ◌▸◌, each, lexemes, lexeme_of, decimal}

@@ -1,6 +1,6 @@
 -- The texts of operators are spelled by the grammar. Main lemma `Writes-operator`.
 --     OperatorEntryFits    the coefficient is not zero, and it and its symbols are as the grammar wants them
-use Rattle.std.proofs.Common.{◌≡◌, ℕ, zero, suc, ◌+◌, ◌<◌, ◌≤◌, ◌==◌, Bool, true, false, cond, ℤ, pos, List, [], ◌∷◌, ◌++◌, length, refl, sym, ap, ◌∙◌, subst, arith, append_assoc, codes, map}
+use Rattle.std.proofs.Common.{◌≡◌, ℕ, suc, ◌<◌, true, false, ℤ, List, [], ◌∷◌, ◌++◌, length, refl, arith, append_assoc}
 use Rattle.std.specs.List.{flat_map}
 use Rattle.ct_algebra.specs.Monomial.{Mono}
 use Rattle.ct_algebra.specs.Polynomial.{Polynomial}

@@ -1,7 +1,6 @@
 -- The texts of powers and terms are spelled by the grammar. Main lemma `Writes-term`.
 --     PowerFits names operators p     the name is of the list, its symbol is one where it is written, and the exponent is within the limit
-use Rattle.std.proofs.Common.{◌≡◌, ◌≢◌, ℕ, zero, suc, ◌+◌, ◌*◌, ◌^◌, ◌<◌, ◌≤◌, ◌==◌, Bool, true, false, cond, ℤ, pos, List, [], ◌∷◌, ◌++◌, length, IsTrue, refl, sym, ap, ◌∙◌, subst, arith, append_assoc, codes, map}
-use Rattle.std.specs.List.{flat_map}
+use Rattle.std.proofs.Common.{◌≡◌, ◌≢◌, ℕ, ◌<◌, ◌≤◌, ◌==◌, Bool, true, false, cond, ℤ, pos, List, [], ◌∷◌, ◌++◌, length, IsTrue, refl, sym, ap, arith, append_assoc, codes}
 use Rattle.std.specs.Prelude.{unsigned_abs}
 use Rattle.std.specs.Fmt as fmt
 use Rattle.std.proofs.lemmas.List.{append-nil}
@@ -16,11 +15,11 @@ use Rattle.ct_problem.specs.Lexemes as lexeme
 use Rattle.ct_problem.specs.Grammar.{product_of, IsAtom, IsFactor, IsMoreFactor, IsTerm, symbol, IsActing}
 use Rattle.ct_problem.proofs.JoinedTexts.{to_nothing}
 use Rattle.ct_answer.specs.declared.factors.Power.{Power}
-use Rattle.ct_answer.specs.Text.{naming_at, base_text, symbol_text, name_text, letter, exponent_text, power_text, later_powers, powers_text, term_text}
+use Rattle.ct_answer.specs.Text.{naming_at, base_text, symbol_text, name_text, letter, power_text, later_powers, powers_text, term_text}
 use Rattle.ct_answer.proofs.TokensAhead.{IsPlainSign}
-use Rattle.ct_answer.proofs.ReadTexts.{Writes, Writes-joined, Writes-as, Writes-text, Writes-behind, Writes-before, Writes-nothing, Writes-sign, Writes-word, Writes-number}
+use Rattle.ct_answer.proofs.ReadTexts.{Writes, Writes-joined, Writes-as, Writes-text, Writes-before, Writes-nothing, Writes-sign, Writes-word, Writes-number}
 use Rattle.ct_answer.proofs.NamePlaces.{is_word, is_variable, is_acting}
-use Rattle.ct_answer.proofs.PrintedExpressions.{base_expression, power_expression, power_expressions, factors_of, term_expression}
+use Rattle.ct_answer.proofs.PrintedExpressions.{base_expression, power_expression, power_expressions, term_expression}
 
 pub record PowerFits (names : List Naming) (operators : Bool) (p : Power) : Type 0 where
   pub named : p.name < length names

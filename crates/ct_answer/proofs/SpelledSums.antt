@@ -1,29 +1,26 @@
 -- The texts of polynomials and operators are spelled by the grammar. Main lemmas `Writes-polynomial` and `Writes-operator`.
 --     EntryFits, OperatorEntryFits     numbers, exponents and names are as the grammar wants them
 --     Sum ts                           the lexemes of the sum of these terms, the first of which may have a `-`
-use Rattle.std.proofs.Common.{◌≡◌, ◌≢◌, ℕ, zero, suc, ◌+◌, ◌<◌, ◌≤◌, ◌==◌, Bool, true, false, cond, ℤ, pos, negsuc, List, [], ◌∷◌, ◌++◌, length, IsTrue, refl, sym, ap, ◌∙◌, subst, arith, append_assoc, codes, map, ne_eqb}
+use Rattle.std.proofs.Common.{◌≡◌, ℕ, suc, ◌≤◌, ◌==◌, Bool, true, false, cond, ℤ, pos, List, [], ◌∷◌, ◌++◌, length, refl, arith, codes, ne_eqb}
 use Rattle.std.specs.List.{flat_map}
 use Rattle.std.specs.Prelude.{unsigned_abs}
 use Rattle.std.specs.Fmt as fmt
-use Rattle.std.proofs.lemmas.List.{append-nil}
 use Rattle.ct_algebra.specs.Monomial.{Mono}
 use Rattle.ct_algebra.specs.Polynomial.{Polynomial}
-use Rattle.ct_algebra.specs.Operators.{Operator}
-use Rattle.ct_mono.specs.Limits.{largest_degree, largest_norm}
+use Rattle.ct_mono.specs.Limits.{largest_norm}
 use Rattle.ct_ore.specs.Naming.{Naming, IsAlgebra}
 use Rattle.ct_problem.specs.declared.expr.Expr.{Expr}
 use Rattle.ct_problem.specs.declared.expr.Expr.TheVariants as e
 use Rattle.ct_problem.specs.Lexemes.{Lexeme, Texts, nothing, one, optional, number, ◌▸◌, each}
 use Rattle.ct_problem.specs.Lexemes as lexeme
 use Rattle.ct_problem.specs.Signs.{plus, minus}
-use Rattle.ct_problem.specs.Grammar.{Term, product_of, sum_of, IsTerm, IsMoreTerm, IsSum, IsFactor, IsAtom, IsNested, IsExpression}
-use Rattle.ct_problem.proofs.JoinedTexts.{joined_to_left, joined_to_right, joined_nothing, nothing_joined, to_nothing}
+use Rattle.ct_problem.specs.Grammar.{Term, product_of, IsMoreTerm, IsSum}
+use Rattle.ct_problem.proofs.JoinedTexts.{joined_to_right, joined_nothing, nothing_joined, to_nothing}
 use Rattle.ct_answer.specs.declared.factors.Power.{Power}
-use Rattle.ct_answer.specs.Text as text
-use Rattle.ct_answer.specs.Text.{sign_text, is_negative, signed_term, entry_text, entries_text, polynomial_text, product_text, parenthesized, operator_entry_text, operator_entries_text, operator_text, names_in, symbols_in, term_text, later_powers}
-use Rattle.ct_answer.proofs.ReadTexts.{Writes, Writes-joined, Writes-as, Writes-text, Writes-behind, Writes-before, Writes-nothing, Writes-sign, Writes-blank}
-use Rattle.ct_answer.proofs.PrintedExpressions.{power_expressions, term_expression, signed_expression, sum_expression, entry_expression, entry_expressions, polynomial_expression, before_symbols, product_expressions, operator_entry_expressions, operator_expressions, operator_expression}
-use Rattle.ct_answer.proofs.SpelledPowers.{PowerFits, Each, Each-append, plus_is_plain, minus_is_plain, open_parenthesis_is_plain, close_parenthesis_is_plain, MoreFactor, ATerm, Writes-later, Writes-term, Writes-number_alone, term_from}
+use Rattle.ct_answer.specs.Text.{sign_text, is_negative, signed_term, entry_text, entries_text, polynomial_text, names_in, term_text}
+use Rattle.ct_answer.proofs.ReadTexts.{Writes, Writes-joined, Writes-as, Writes-behind, Writes-before, Writes-nothing, Writes-sign, Writes-blank}
+use Rattle.ct_answer.proofs.PrintedExpressions.{term_expression, signed_expression, sum_expression, entry_expression, entry_expressions, polynomial_expression}
+use Rattle.ct_answer.proofs.SpelledPowers.{PowerFits, Each, plus_is_plain, minus_is_plain, ATerm, Writes-term, Writes-number_alone}
 
 -- ---- lists of lists
 

@@ -1,6 +1,6 @@
 -- The measures of sums of operators are at most those of the terms. Main lemmas `term_count-sum` and `term_norm-sum`: what is
 -- said of values is said of lists of terms (`weight-merged`).
-use Rattle.std.proofs.Common.{◌≡◌, ℕ, suc, ◌+◌, ◌≤◌, Bool, true, false, cond, ℤ, nat_abs, List, [], ◌∷◌, ◌++◌, length, refl, sym, ap, ap₂, ◌∙◌, arith, Less, Equal, Greater, Ordering}
+use Rattle.std.proofs.Common.{◌≡◌, ℕ, suc, ◌+◌, ◌≤◌, Bool, true, false, cond, ℤ, nat_abs, List, [], ◌∷◌, length, refl, sym, ap, ap₂, ◌∙◌, arith, Less, Equal, Greater, Ordering}
 use Rattle.std.specs.List.{sum_by}
 use Rattle.std.proofs.lemmas.List.{length-append}
 use Rattle.std.proofs.lemmas.List.Sums.{sum_by-cons, sum_by-append}

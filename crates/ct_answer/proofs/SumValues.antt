@@ -3,9 +3,8 @@
 --     Adds ts w k s          behind any sum that leaves room, these terms add w
 --     Begins ts w k s        a sum of these terms has the value w, and goes on from it
 -- Main lemmas `Adds-append`, `Begins-append` and `sum_value`.
-use Rattle.std.proofs.Common.{◌≡◌, ℕ, zero, suc, ◌+◌, ◌≤◌, Bool, true, false, cond, ltb, le-ltb, pos, List, [], ◌∷◌, ◌++◌, length, map, None, Some, Option, Ok, Err, refl, sym, ap, ap₂, ◌∙◌, subst, arith}
-use Rattle.std.specs.List.{sum_by}
-use Rattle.std.proofs.lemmas.List.{append_assoc, append-nil}
+use Rattle.std.proofs.Common.{◌≡◌, ℕ, ◌+◌, ◌≤◌, Bool, true, false, le-ltb, pos, List, [], ◌∷◌, ◌++◌, map, None, Some, Option, Ok, Err, refl, sym, ap, ap₂, ◌∙◌, arith}
+use Rattle.std.proofs.lemmas.List.{append-nil}
 use Rattle.ct_algebra.specs.Names.{Name}
 use Rattle.ct_algebra.specs.Actions.{Action}
 use Rattle.ct_algebra.specs.Group.{zero_add, hom_zero}
@@ -18,17 +17,12 @@ use Rattle.ct_algebra.proofs.OperatorTerms.{term_of-zero}
 use Rattle.ct_mono.specs.Checked.{Checked, ◌>>=◌, verdict}
 use Rattle.ct_mono.specs.Limits.{most_terms, largest_norm}
 use Rattle.ct_mono.specs.declared.fault.Kind.{Kind}
-use Rattle.ct_mono.specs.declared.fault.Kind.TheVariants.{Terms, Number}
-use Rattle.ct_poly.specs.Measures.{broken}
-use Rattle.ct_ore.specs.CoefficientTerms.{size_of}
-use Rattle.ct_ore.specs.Measures.{all_terms, coefficient_terms, term_count, term_norm, sum_overflow, checked_sum, checked_difference, difference_of_operators}
+use Rattle.ct_ore.specs.Measures.{coefficient_terms, term_count, term_norm, sum_overflow, checked_sum, checked_difference, difference_of_operators}
 use Rattle.ct_ore.proofs.WrittenOperators.{terms-no_operator}
-use Rattle.ct_problem.specs.declared.expr.Expr.{Expr}
 use Rattle.ct_problem.specs.declared.expr.Expr.TheVariants as e
-use Rattle.ct_problem.specs.declared.expr.Summand.{Summand, roll-Summand, out-Summand}
 use Rattle.ct_problem.specs.Grammar.{Term, summand}
 use Rattle.ct_problem.specs.Grammar as grammar
-use Rattle.ct_problem.specs.Value.{value_of, value_of_term, signed, Signed, sum_from, joined}
+use Rattle.ct_problem.specs.Value.{value_of, signed, Signed, sum_from, joined}
 use Rattle.ct_problem.proofs.Values.{value_of-Whole, value_of-Sum, value_of_term-out}
 use Rattle.ct_answer.proofs.SumMeasures.{term_count-sum, term_norm-sum}
 use Rattle.ct_answer.proofs.PrintedExpressions.{sum_expression}

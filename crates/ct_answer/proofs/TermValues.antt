@@ -1,12 +1,10 @@
 -- The values of printed terms. Main lemmas `term_value` and `before_symbols_value`: a number, powers of names and then powers
 -- of symbols make one term, and so does a polynomial before powers of symbols.
-use Rattle.std.proofs.Common.{◌≡◌, ◌≢◌, ℕ, zero, suc, ◌+◌, ◌≤◌, ◌<◌, ◌==◌, Bool, true, false, cond, T, ℤ, pos, nat_abs, List, [], ◌∷◌, ◌++◌, map, None, Some, Ok, Err, refl, sym, ap, ◌∙◌, subst, arith, eqb-true}
-use Rattle.std.proofs.lemmas.List.{map-append}
-use Rattle.ct_algebra.specs.Monomial.{Mono, total, total-·, unit, ◌·◌, ·_comm, ·-unit}
+use Rattle.std.proofs.Common.{◌≡◌, ℕ, ◌≤◌, ◌<◌, ◌==◌, Bool, true, false, cond, pos, List, [], ◌∷◌, ◌++◌, None, Some, Ok, Err, refl, sym, ap, ◌∙◌, arith, eqb-true}
+use Rattle.ct_algebra.specs.Monomial.{Mono, total, total-·, unit}
 use Rattle.ct_algebra.specs.Names.{Name}
 use Rattle.ct_algebra.specs.Polynomial.{Polynomial, polys}
 use Rattle.ct_algebra.specs.Substitution.{term, number_is}
-use Rattle.ct_algebra.specs.WholeNumbers.{int_is_zero}
 use Rattle.ct_algebra.specs.Actions.{Action}
 use Rattle.ct_algebra.specs.Operators.{Operator, term_of}
 use Rattle.ct_mono.specs.Checked.{Checked, ◌>>=◌}

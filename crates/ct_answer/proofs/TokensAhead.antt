@@ -1,6 +1,6 @@
 -- A token's bytes at the front of a text are the first piece of it, where what follows is no more of the token. Main lemmas
 -- `word_ahead`, `number_ahead`, `sign_ahead` and `blank_ahead`: the other direction of what a scan makes of a text.
-use Rattle.std.proofs.Common.{◌≡◌, ◌≢◌, ℕ, suc, ◌+◌, ◌<◌, ◌≤◌, ◌==◌, ◌&&◌, Bool, true, false, cond, List, [], ◌∷◌, ◌++◌, length, IsTrue, refl, sym, ap, ◌∙◌, arith, rules, tests, ne_eqb, nat_le, nat_lt}
+use Rattle.std.proofs.Common.{◌≡◌, ℕ, suc, ◌+◌, ◌<◌, ◌≤◌, ◌==◌, ◌&&◌, Bool, true, false, List, [], ◌∷◌, ◌++◌, length, IsTrue, refl, ap, ◌∙◌, arith, rules, tests, ne_eqb, nat_le}
 use Rattle.std.specs.List.{prefix_len, take_while, list_all}
 use Rattle.std.proofs.lemmas.Bool.{false≢true}
 use Rattle.ct_token.specs.declared.token.Symbol.TheVariants.{Word, Number, Sign}
