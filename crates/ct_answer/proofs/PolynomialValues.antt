@@ -1,4 +1,4 @@
--- The value of what is printed of a polynomial, term after term. Main lemmas `Makes-polynomial` and `written_value`.
+-- The value of what is printed of a polynomial, term after term. Main lemmas `Makes-polynomial` and `polynomial_written`.
 --     IsSmallEntry e       a term of a polynomial within the limits
 use Rattle.std.proofs.Common.{◌≡◌, ℕ, zero, suc, ◌+◌, ◌≤◌, ◌<◌, true, false, cond, T, ℤ, pos, negsuc, nat_abs, List, [], ◌∷◌, ◌++◌, length, Ok, refl, sym, ap, ◌∙◌, subst, arith}
 use Rattle.std.proofs.lemmas.List.{append-nil}

@@ -1,4 +1,4 @@
--- The values of printed powers and of products of them. Main lemmas `power_value`, `names_value` and `symbols_value`.
+-- The values of printed powers and of products of them. Main lemmas `names_value` and `symbols_value`.
 --     IsSmall c            a polynomial within the limits that is not zero
 use Rattle.std.proofs.Common.{◌≡◌, ◌≢◌, ℕ, zero, suc, ◌+◌, ◌≤◌, ◌==◌, Bool, true, false, cond, T, ℤ, pos, nat_abs, ◌*ℤ◌, List, [], ◌∷◌, ◌++◌, length, Some, Ok, refl, sym, ap, ◌∙◌, subst, arith, eqb-true}
 use Rattle.std.proofs.lemmas.Int.{ints}

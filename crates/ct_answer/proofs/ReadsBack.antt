@@ -2,7 +2,7 @@
 use Rattle.std.proofs.Common.{◌≡◌, Ok, List, true, false, refl, ap, ◌∙◌}
 use Rattle.ct_algebra.specs.Monomial.{unit}
 use Rattle.ct_algebra.specs.Names.{Name}
-use Rattle.ct_algebra.specs.Polynomial.{Polynomial, norm}
+use Rattle.ct_algebra.specs.Polynomial.{Polynomial, count, norm}
 use Rattle.ct_algebra.specs.Actions.{Action}
 use Rattle.ct_algebra.specs.Operators.{Operator, polynomial_at, term_of}
 use Rattle.ct_algebra.proofs.OperatorTerms.{at-term_of, pick-same}
@@ -22,7 +22,7 @@ coefficient_of_one : (p : Polynomial) → polynomial_at (term_of unit p) unit �
 coefficient_of_one p = at-term_of unit unit p ∙ pick-same unit unit p refl
 
 polynomial_value : (a : Name → Action) (names : List Naming) (p : Polynomial) → PolynomialFits names p → checked_polynomial a (polynomial_expression p) ≡ Ok p
-unfolding norm
+unfolding count norm
 polynomial_value a names p fits =
     ap (λ (c : Checked Operator). c >>= (λ x. Ok (polynomial_at x unit))) (polynomial_written a p (small_entries p fits.low fits.small) fits.few fits.small)
     ∙ ap Ok (coefficient_of_one p)

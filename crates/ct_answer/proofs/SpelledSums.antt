@@ -1,6 +1,6 @@
--- The texts of polynomials and operators are spelled by the grammar. Main lemmas `Writes-polynomial` and `Writes-operator`.
---     EntryFits, OperatorEntryFits     numbers, exponents and names are as the grammar wants them
---     Sum ts                           the lexemes of the sum of these terms, the first of which may have a `-`
+-- The texts of polynomials are spelled by the grammar. Main lemma `Writes-polynomial`.
+--     EntryFits     numbers, exponents and names are as the grammar wants them
+--     Sum ts        the lexemes of the sum of these terms, the first of which may have a `-`
 use Rattle.std.proofs.Common.{◌≡◌, ℕ, suc, ◌≤◌, ◌==◌, Bool, true, false, cond, ℤ, pos, List, [], ◌∷◌, ◌++◌, length, refl, arith, codes, ne_eqb}
 use Rattle.std.specs.List.{flat_map}
 use Rattle.std.specs.Prelude.{unsigned_abs}

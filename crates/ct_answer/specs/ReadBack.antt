@@ -9,7 +9,7 @@ use Rattle.std.specs.Prelude.{◌≡◌, ◌≤◌, ℕ, Bool, true, false, List
 use Rattle.ct_token.specs.Lexical.{scan_of}
 use Rattle.ct_algebra.specs.Terms.{EachTerm}
 use Rattle.ct_algebra.specs.Names.{Name, place}
-use Rattle.ct_algebra.specs.Polynomial.{Polynomial, norm, degree}
+use Rattle.ct_algebra.specs.Polynomial.{Polynomial, count, norm, degree}
 use Rattle.ct_algebra.specs.Operators.{Operator}
 use Rattle.ct_algebra.specs.FreeOf.{IsFreeOf, IsOver}
 use Rattle.ct_mono.specs.Limits.{largest_degree, most_terms, largest_norm}
@@ -27,7 +27,7 @@ abbrev pub IsNamed : List Naming → Polynomial → Type 0
 IsNamed names p = (j : Name) → length names ≤ place j → IsFreeOf j p
 
 pub record PolynomialFits (names : List Naming) (p : Polynomial) : Type 0 where
-  pub few : length p.terms ≤ most_terms
+  pub few : count p ≤ most_terms
   pub small : norm p ≤ largest_norm
   pub low : degree p ≤ largest_degree
   pub named : IsNamed names p

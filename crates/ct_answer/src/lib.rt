@@ -1,7 +1,8 @@
 //! Polynomials and operators as text.
 //!
 //! The terms fall. A term is its number and its powers joined by `*`, as in `-2*n^2*S[n]`, and a coefficient of
-//! several terms stands in parentheses, as in `(n + 1)*S[n]^2 - 3*n`. `specs/Text.antt` says the rest.
+//! several terms stands in parentheses, as in `(n + 1)*S[n]^2 - 3*n`. `specs/Text.antt` says the rest,
+//! and `specs/ReadBack.antt` how the text is read back.
 #![tactic(auto)]
 
 mod factors;
