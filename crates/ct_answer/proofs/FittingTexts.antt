@@ -19,11 +19,12 @@ use Rattle.ct_mono.proofs.ExponentLaws.{place-name_with}
 use Rattle.ct_ore.specs.Naming.{Naming, actions_of}
 use Rattle.ct_ore.specs.Measures.{row_of, all_terms, greatest, coefficient_terms, term_norm, coefficient_degree, order_of}
 use Rattle.ct_ore.proofs.PairMeasureLaws.{exp-le-total, known_action, no_action}
+use Rattle.ct_problem.specs.WellFormed.{Each}
 use Rattle.ct_answer.specs.declared.factors.Power.{Power}
 use Rattle.ct_answer.specs.Text.{naming_at, power_at, powers_in, names_in, symbols_in}
 use Rattle.ct_answer.specs.ReadBack.{IsNamed, PolynomialFits, OperatorFits}
 use Rattle.ct_answer.proofs.SumMeasures.{size, size-row}
-use Rattle.ct_answer.proofs.SpelledPowers.{PowerFits, Each, Each-append}
+use Rattle.ct_answer.proofs.SpelledPowers.{PowerFits, Each-append}
 use Rattle.ct_answer.proofs.SpelledSums.{EntryFits}
 use Rattle.ct_answer.proofs.SpelledOperators.{OperatorEntryFits}
 

@@ -11,9 +11,9 @@ use Rattle.ct_algebra.specs.WholeNumbers.{int_group}
 use Rattle.ct_mono.specs.Limits.{largest_degree, most_terms, largest_norm}
 use Rattle.ct_ore.specs.Naming.{Naming}
 use Rattle.ct_ore.specs.Measures.{row_of, all_terms, greatest, coefficient_terms, term_count, term_norm, coefficient_degree, order_of}
+use Rattle.ct_problem.specs.WellFormed.{Each}
 use Rattle.ct_answer.specs.ReadBack.{OperatorFits}
 use Rattle.ct_answer.proofs.SumMeasures.{size, length-row, size-row}
-use Rattle.ct_answer.proofs.SpelledPowers.{Each}
 use Rattle.ct_answer.proofs.PowerValues.{IsSmall}
 use Rattle.ct_answer.proofs.PolynomialValues.{IsSmallEntry}
 use Rattle.ct_answer.proofs.OperatorValues.{IsSmallOperatorEntry}

@@ -1,15 +1,14 @@
 -- The names of an algebra as the reader finds them: the first of its letters. Main lemmas `is_variable` and `is_acting`.
 use Rattle.std.proofs.Common.{◌≡◌, ◌≢◌, ℕ, zero, suc, ◌+◌, ◌<◌, Bool, true, false, List, [], ◌∷◌, length, Some, None, IsTrue, refl, ap, ◌∙◌, arith}
 use Rattle.std.specs.List.{position, position_from, list_all}
-use Rattle.std.specs.Str.{bytes_eq}
 use Rattle.std.proofs.lemmas.Iterator.Adapters.{position_from-zero}
-use Rattle.std.proofs.lemmas.Slice.Eq.{bytes_eq-Decides}
 use Rattle.ct_token.specs.Lexical as lexical
 use Rattle.ct_token.specs.Lexing as lexing
 use Rattle.ct_algebra.specs.Actions as actions
 use Rattle.ct_ore.specs.Naming.{Naming, IsNaming, EachIsNaming, IsOtherText, TextsDiffer, IsAlgebra, IsWord, are_word_bytes}
 use Rattle.ct_problem.specs.DeclaredNames.{same_action, is_wanted}
 use Rattle.ct_problem.specs.Grammar.{IsVariable, IsActing}
+use Rattle.ct_problem.proofs.Taking.{same_word, unequal_words}
 use Rattle.ct_problem.proofs.Values.{both}
 use Rattle.ct_answer.specs.Text.{naming_at}
 
@@ -58,16 +57,6 @@ position_at test ns k within here before =
     let e : 0 + k ≡ k = omega arith in
     position_from-zero test ns ∙ first_at test ns 0 k within here before ∙ ap (λ (m : ℕ). Some m) e
 
-unlike : (xs ys : List ℕ) → xs ≢ ys → bytes_eq xs ys ≡ false
-unlike xs ys differ = by (bytes_eq xs ys) refl
-  where
-    by : (t : Bool) → bytes_eq xs ys ≡ t → bytes_eq xs ys ≡ false
-    by true e = absurd (differ ((bytes_eq-Decides xs ys).0 e))
-    by false e = e
-
-itself : (xs : List ℕ) → bytes_eq xs xs ≡ true
-itself xs = (bytes_eq-Decides xs xs).1 refl
-
 same_itself : (a : actions.Action) → same_action a a ≡ true
 same_itself actions.Shift = refl
 same_itself actions.Derive = refl
@@ -83,8 +72,8 @@ module _ (names : List Naming) (known : IsAlgebra names) (k : ℕ) (within : k <
       record {
         no_shift = naming.no_shift;
         no_derivation = naming.no_derivation;
-        first = position_at (is_wanted None (naming_at names k).text) names k within (itself (naming_at names k).text)
-            (λ j less. unlike (naming_at names k).text (naming_at names j).text (texts_differ names j k known.different less within));
+        first = position_at (is_wanted None (naming_at names k).text) names k within (same_word (naming_at names k).text)
+            (λ j less. unequal_words (naming_at names k).text (naming_at names j).text (texts_differ names j k known.different less within));
       }
 
   pub is_acting : IsActing names (naming_at names k).action (naming_at names k).text k
@@ -92,6 +81,6 @@ module _ (names : List Naming) (known : IsAlgebra names) (k : ℕ) (within : k <
       let text = (naming_at names k).text in
       let action = (naming_at names k).action in
       let here : is_wanted (Some (naming_at names k).action) (naming_at names k).text (naming_at names k) ≡ true =
-      let same = itself (naming_at names k).text in rw same (same_itself (naming_at names k).action) in
+      let same = same_word (naming_at names k).text in rw same (same_itself (naming_at names k).action) in
       position_at (is_wanted (Some (naming_at names k).action) (naming_at names k).text) names k within here
-      (λ j less. let other = unlike (naming_at names k).text (naming_at names j).text (texts_differ names j k known.different less within) in rw other refl)
+      (λ j less. let other = unequal_words (naming_at names k).text (naming_at names j).text (texts_differ names j k known.different less within) in rw other refl)

@@ -16,9 +16,9 @@ use Rattle.ct_algebra.proofs.OperatorLawProofs as operator_laws
 use Rattle.ct_mono.specs.Limits.{largest_degree, most_terms, largest_norm}
 use Rattle.ct_ore.specs.Measures.{row_of, all_terms, coefficient_terms, term_count, term_norm}
 use Rattle.ct_problem.specs.Value.{value_of}
+use Rattle.ct_problem.specs.WellFormed.{Each}
 use Rattle.ct_answer.specs.declared.factors.Power.{Power}
 use Rattle.ct_answer.specs.Text.{names_in, symbols_in}
-use Rattle.ct_answer.proofs.SpelledPowers.{Each}
 use Rattle.ct_answer.proofs.SumMeasures.{size, length-row, size-row}
 use Rattle.ct_answer.proofs.PlainProducts.{terms-term, term_count-one, term_norm-one}
 use Rattle.ct_answer.proofs.PowerMonomials.{all_of, all_of-powers, all_are}

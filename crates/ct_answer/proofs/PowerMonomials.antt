@@ -6,9 +6,10 @@ use Rattle.std.proofs.lemmas.Bool.{false≢true}
 use Rattle.ct_algebra.specs.Monomial.{Mono, exp, unit, ◌·◌, ·_assoc, ·_comm, ·-unit, exp-unit, exp-·, same_mono}
 use Rattle.ct_algebra.specs.Names.{symbol, name_with, exp-symbol}
 use Rattle.ct_mono.proofs.ExponentLaws.{place-name_with}
+use Rattle.ct_problem.specs.WellFormed.{Each}
 use Rattle.ct_answer.specs.declared.factors.Power.{Power}
 use Rattle.ct_answer.specs.Text.{power_at, powers_in}
-use Rattle.ct_answer.proofs.SpelledPowers.{Each, Each-append}
+use Rattle.ct_answer.proofs.SpelledPowers.{Each-append}
 
 -- ---- monomials of powers
 
@@ -22,6 +23,9 @@ monomial_of p = raised (symbol (name_with p.name)) p.exponent
 abbrev pub all_of : List Power → Mono
 all_of [] = unit
 all_of (p ∷ ps) = monomial_of p · all_of ps
+
+pub unit_before : (n : Mono) → unit · n ≡ n
+unit_before n = ·_comm unit n ∙ ·-unit n
 
 pub raised-one : (n : Mono) → raised n 1 ≡ n
 unfolding raised
@@ -43,7 +47,7 @@ exp-monomial_of p i named small =
     by false = omega arith
 
 all_of-append : (ps qs : List Power) → all_of (ps ++ qs) ≡ all_of ps · all_of qs
-all_of-append [] qs = sym (·_comm unit (all_of qs) ∙ ·-unit (all_of qs))
+all_of-append [] qs = sym (unit_before (all_of qs))
 all_of-append (p ∷ ps) qs = ap (λ (n : Mono). monomial_of p · n) (all_of-append ps qs) ∙ sym (·_assoc (monomial_of p) (all_of ps) (all_of qs))
 
 module _ (is_symbol : Bool) (m : Mono) where

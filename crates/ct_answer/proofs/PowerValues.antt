@@ -2,7 +2,7 @@
 --     IsSmall c            a polynomial within the limits that is not zero
 use Rattle.std.proofs.Common.{◌≡◌, ◌≢◌, ℕ, zero, suc, ◌+◌, ◌≤◌, ◌==◌, Bool, true, false, cond, T, ℤ, pos, nat_abs, ◌*ℤ◌, List, [], ◌∷◌, ◌++◌, length, Some, Ok, refl, sym, ap, ◌∙◌, subst, arith, eqb-true}
 use Rattle.std.proofs.lemmas.Int.{ints}
-use Rattle.ct_algebra.specs.Monomial.{Mono, total, total-·, unit, ◌·◌, ·_assoc, ·_comm, ·-unit}
+use Rattle.ct_algebra.specs.Monomial.{Mono, total, total-·, unit, ◌·◌, ·_assoc, ·-unit}
 use Rattle.ct_algebra.specs.Names.{Name, symbol, name_with}
 use Rattle.ct_algebra.specs.Polynomial.{Polynomial, polys, times, times_is, count, norm, norm_of, degree, degree_of}
 use Rattle.ct_algebra.specs.Substitution.{term, number_is, name_is, one_is, term-*}
@@ -15,9 +15,9 @@ use Rattle.ct_ore.specs.Measures.{checked_product}
 use Rattle.ct_problem.specs.declared.expr.Expr.TheVariants as e
 use Rattle.ct_problem.specs.Value.{value_of, values, product_from, power_from, one_operator}
 use Rattle.ct_problem.proofs.Values.{value_of-Name, value_of-Symbol, value_of-Power}
+use Rattle.ct_problem.specs.WellFormed.{Each}
 use Rattle.ct_answer.specs.declared.factors.Power.{Power}
-use Rattle.ct_answer.proofs.SpelledPowers.{Each}
-use Rattle.ct_answer.proofs.PowerMonomials.{raised, raised-one, monomial_of, all_of}
+use Rattle.ct_answer.proofs.PowerMonomials.{raised, raised-one, monomial_of, all_of, unit_before}
 use Rattle.ct_answer.proofs.PrintedExpressions.{power_expression, power_expressions}
 use Rattle.ct_answer.proofs.PlainProducts.{terms-term, some_term, total_unit, times_names, times_symbols}
 
@@ -78,9 +78,6 @@ module _ (a : Name → Action) where
       let sum = total-· s (raised s n) in
       ap (λ (c : Checked Operator). c >>= (λ more. power_from a more n (term_of s polys.one))) (times_symbols a m s polys.one small_one.some small_one.few small_one.small small_one.low (omega (arith, sum, low)))
       ∙ symbols_power s n (m · s) (omega (arith, sum, total-· m s, low)) ∙ ap (λ (k : Mono). Ok (term_of k polys.one)) (·_assoc m s (raised s n))
-
-  pub unit_before : (n : Mono) → unit · n ≡ n
-  unit_before n = ·_comm unit n ∙ ·-unit n
 
   value-Name : (k : ℕ) → value_of a (e.Name k) ≡ Ok (term_of unit (term (symbol (name_with k)) (pos 1)))
   value-Name k = value_of-Name a k ∙ ap (λ (c : Polynomial). Ok (term_of unit c)) (name_is (name_with k))

@@ -11,11 +11,12 @@ use Rattle.ct_problem.specs.Lexemes.{Lexeme, Texts, one, ◌▸◌, each}
 use Rattle.ct_problem.specs.Lexemes as lexeme
 use Rattle.ct_problem.specs.Grammar.{Term, product_of, IsSum, IsFactor, IsAtom, IsNested}
 use Rattle.ct_problem.proofs.JoinedTexts.{joined_to_right, to_nothing}
+use Rattle.ct_problem.specs.WellFormed.{Each}
 use Rattle.ct_answer.specs.declared.factors.Power.{Power}
 use Rattle.ct_answer.specs.Text.{sign_text, entries_text, product_text, parenthesized, operator_entry_text, operator_entries_text, operator_text, names_in, symbols_in, later_powers}
 use Rattle.ct_answer.proofs.ReadTexts.{Writes, Writes-joined, Writes-as, Writes-text, Writes-before, Writes-nothing, Writes-sign}
 use Rattle.ct_answer.proofs.PrintedExpressions.{power_expressions, sum_expression, entry_expressions, before_symbols, product_expressions, operator_entry_expressions, operator_expressions, operator_expression}
-use Rattle.ct_answer.proofs.SpelledPowers.{PowerFits, Each, Each-append, open_parenthesis_is_plain, close_parenthesis_is_plain, MoreFactor, ATerm, Writes-later, term_from}
+use Rattle.ct_answer.proofs.SpelledPowers.{PowerFits, Each-append, open_parenthesis_is_plain, close_parenthesis_is_plain, MoreFactor, ATerm, Writes-later, term_from}
 use Rattle.ct_answer.proofs.SpelledSums.{EntryFits, MoreTerm, First, Sum, each-append, sum_is, zero_is, Writes-later_sign, Writes-first_sign, Writes-first_term, Writes-more_term, Writes-first_entries, Writes-later_entries}
 
 pub record OperatorEntryFits (names : List Naming) (e : Mono × Polynomial) : Type 0 where

@@ -14,6 +14,7 @@ use Rattle.ct_problem.specs.Lexemes.{Texts, nothing, one, number, ◌▸◌, eac
 use Rattle.ct_problem.specs.Lexemes as lexeme
 use Rattle.ct_problem.specs.Grammar.{product_of, IsAtom, IsFactor, IsMoreFactor, IsTerm, symbol, IsActing}
 use Rattle.ct_problem.proofs.JoinedTexts.{to_nothing}
+use Rattle.ct_problem.specs.WellFormed.{Each}
 use Rattle.ct_answer.specs.declared.factors.Power.{Power}
 use Rattle.ct_answer.specs.Text.{naming_at, base_text, symbol_text, name_text, letter, power_text, later_powers, powers_text, term_text}
 use Rattle.ct_answer.proofs.TokensAhead.{IsPlainSign}
@@ -25,10 +26,6 @@ pub record PowerFits (names : List Naming) (operators : Bool) (p : Power) : Type
   pub named : p.name < length names
   pub acting : p.is_symbol ≡ true → IsTrue operators × ((naming_at names p.name).action ≢ actions.Still)
   pub low : p.exponent ≤ largest_degree
-
-abbrev pub Each : {X : Type 0} → (X → Type 0) → List X → Type 0
-Each P [] = Unit {0}
-Each P (x ∷ xs) = P x × Each P xs
 
 pub Each-append : {X : Type 0} (P : X → Type 0) (xs ys : List X) → Each P xs → Each P ys → Each P (xs ++ ys)
 Each-append P [] ys first second = second

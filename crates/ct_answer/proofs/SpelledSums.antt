@@ -16,11 +16,12 @@ use Rattle.ct_problem.specs.Lexemes as lexeme
 use Rattle.ct_problem.specs.Signs.{plus, minus}
 use Rattle.ct_problem.specs.Grammar.{Term, product_of, IsMoreTerm, IsSum}
 use Rattle.ct_problem.proofs.JoinedTexts.{joined_to_right, joined_nothing, nothing_joined, to_nothing}
+use Rattle.ct_problem.specs.WellFormed.{Each}
 use Rattle.ct_answer.specs.declared.factors.Power.{Power}
 use Rattle.ct_answer.specs.Text.{sign_text, is_negative, signed_term, entry_text, entries_text, polynomial_text, names_in, term_text}
 use Rattle.ct_answer.proofs.ReadTexts.{Writes, Writes-joined, Writes-as, Writes-behind, Writes-before, Writes-nothing, Writes-sign, Writes-blank}
 use Rattle.ct_answer.proofs.PrintedExpressions.{term_expression, signed_expression, sum_expression, entry_expression, entry_expressions, polynomial_expression}
-use Rattle.ct_answer.proofs.SpelledPowers.{PowerFits, Each, plus_is_plain, minus_is_plain, ATerm, Writes-term, Writes-number_alone}
+use Rattle.ct_answer.proofs.SpelledPowers.{PowerFits, plus_is_plain, minus_is_plain, ATerm, Writes-term, Writes-number_alone}
 
 -- ---- lists of lists
 

@@ -13,6 +13,7 @@ use Rattle.ct_algebra.specs.Polynomial.{Polynomial, polys}
 use Rattle.ct_algebra.specs.Substitution.{number_is, term-sum}
 use Rattle.ct_algebra.specs.WholeNumbers.{int_group}
 use Rattle.ct_algebra.specs.Operators.{Operator, operator_group, term_of, no_operator, sum_of_operators, negative}
+use Rattle.ct_algebra.proofs.OperatorLawProofs.{group}
 use Rattle.ct_algebra.proofs.OperatorTerms.{term_of-zero}
 use Rattle.ct_mono.specs.Checked.{Checked, ◌>>=◌, verdict}
 use Rattle.ct_mono.specs.Limits.{most_terms, largest_norm}
@@ -29,15 +30,7 @@ use Rattle.ct_answer.proofs.PrintedExpressions.{sum_expression}
 
 -- ---- sums of operators
 
-pub sum_assoc : (p q r : Operator) → sum_of_operators (sum_of_operators p q) r ≡ sum_of_operators p (sum_of_operators q r)
-unfolding sum_of_operators
-sum_assoc p q r = operator_group.add_assoc p q r
-
-pub sum_none : (p : Operator) → sum_of_operators p no_operator ≡ p
-unfolding sum_of_operators no_operator
-sum_none p = operator_group.add_zero p
-
-pub none_sum : (p : Operator) → sum_of_operators no_operator p ≡ p
+none_sum : (p : Operator) → sum_of_operators no_operator p ≡ p
 unfolding sum_of_operators no_operator
 none_sum p = zero_add operator_group p
 
@@ -144,7 +137,7 @@ module _ (a : Name → Action) where
 
   pub Adds-none : Adds [] no_operator 0 0
   Adds-none so_far rest few small =
-      let same = sum_none so_far in
+      let same = group.sum_with_none so_far in
       record {
         goes_on = ap (λ (x : Operator). sum_from (Some x) rest) (sym same);
         few = omega (arith, ap term_count same);
@@ -159,7 +152,7 @@ module _ (a : Name → Action) where
   Adds-append ts us w v k s l r first second so_far rest few small =
       let one = first so_far (pairs us ++ rest) (omega (arith, few)) (omega (arith, small)) in
       let two = second (sum_of_operators so_far w) rest (omega (arith, few, one.few)) (omega (arith, small, one.small)) in
-      let same = sum_assoc so_far w v in
+      let same = group.sum_is_associative so_far w v in
       record {
         goes_on = ap (sum_from (Some so_far)) (pairs-append ts us rest) ∙ one.goes_on ∙ two.goes_on ∙ ap (λ (x : Operator). sum_from (Some x) rest) same;
         few = omega (arith, one.few, two.few, ap term_count same);

@@ -16,11 +16,11 @@ use Rattle.ct_problem.specs.declared.expr.Expr.TheVariants as e
 use Rattle.ct_problem.specs.Grammar.{product_of}
 use Rattle.ct_problem.specs.Value.{value_of, values, product_from}
 use Rattle.ct_problem.proofs.Values.{value_of-Whole, value_of-Product}
+use Rattle.ct_problem.specs.WellFormed.{Each}
 use Rattle.ct_answer.specs.declared.factors.Power.{Power}
-use Rattle.ct_answer.proofs.SpelledPowers.{Each}
 use Rattle.ct_answer.proofs.PlainProducts.{total_unit, times_symbols}
-use Rattle.ct_answer.proofs.PowerMonomials.{monomial_of, all_of}
-use Rattle.ct_answer.proofs.PowerValues.{IsSmall, small_term, small_one, one_is_term, more_names, unit_before, value-name, value-symbol, names_value, symbols_value}
+use Rattle.ct_answer.proofs.PowerMonomials.{monomial_of, all_of, unit_before}
+use Rattle.ct_answer.proofs.PowerValues.{IsSmall, small_term, small_one, one_is_term, more_names, value-name, value-symbol, names_value, symbols_value}
 use Rattle.ct_answer.proofs.PrintedExpressions.{power_expression, power_expressions, term_expression}
 
 module _ (a : Name → Action) where
@@ -56,12 +56,12 @@ module _ (a : Name → Action) where
           → product_from a (Some (term_of unit (term unit (pos 1)))) (value_of a (power_expression p) ∷ fs) ≡ product_from a None (value_of a (power_expression p) ∷ fs)
       by false is =
           one_before (term_of unit (term (monomial_of p) (pos 1))) (power_expression p) fs (value-name a p is low)
-          (more_names a unit (monomial_of p) (pos 1) tt (omega arith) (omega (arith, total_unit, low)) ∙ ap (λ (k : Mono). Ok (term_of unit (term k (pos 1)))) (unit_before a (monomial_of p)))
+          (more_names a unit (monomial_of p) (pos 1) tt (omega arith) (omega (arith, total_unit, low)) ∙ ap (λ (k : Mono). Ok (term_of unit (term k (pos 1)))) (unit_before (monomial_of p)))
       by true is =
           one_before (term_of (monomial_of p) polys.one) (power_expression p) fs (value-symbol a p is low)
           (ap (λ (c : Polynomial). checked_product a (term_of unit c) (term_of (monomial_of p) polys.one)) (sym one_is_term)
           ∙ times_symbols a unit (monomial_of p) polys.one small_one.some small_one.few small_one.small small_one.low (omega (arith, total_unit, low))
-          ∙ ap (λ (k : Mono). Ok (term_of k polys.one)) (unit_before a (monomial_of p)))
+          ∙ ap (λ (k : Mono). Ok (term_of k polys.one)) (unit_before (monomial_of p)))
 
   whole_value : (n : ℕ) → value_of a (e.Whole (pos n)) ≡ Ok (term_of unit (term unit (pos n)))
   whole_value n = value_of-Whole a (pos n) ∙ ap (λ (c : Polynomial). Ok (term_of unit c)) (number_is (pos n))
@@ -93,9 +93,9 @@ module _ (a : Name → Action) where
   both_value n ps qs some small names symbols low low_order =
       ap (product_from a (Some (term_of unit (term unit (pos n))))) (values-append ps qs)
       ∙ names_value a ps unit (pos n) (values a (power_expressions qs)) names (positive_coef n some) small (omega (arith, total_unit, low))
-      ∙ ap (λ (k : Mono). product_from a (Some (term_of unit (term k (pos n)))) (values a (power_expressions qs))) (unit_before a (all_of ps))
+      ∙ ap (λ (k : Mono). product_from a (Some (term_of unit (term k (pos n)))) (values a (power_expressions qs))) (unit_before (all_of ps))
       ∙ symbols_value a qs unit (term (all_of ps) (pos n)) symbols (small_term (all_of ps) (pos n) (positive_coef n some) small low) (omega (arith, total_unit, low_order))
-      ∙ ap (λ (k : Mono). Ok (term_of k (term (all_of ps) (pos n)))) (unit_before a (all_of qs))
+      ∙ ap (λ (k : Mono). Ok (term_of k (term (all_of ps) (pos n)))) (unit_before (all_of qs))
 
   pub term_value : (n : ℕ) (ps qs : List Power) → 0 < n → n ≤ largest_norm → Each (λ p. p.is_symbol ≡ false) ps → Each (λ p. p.is_symbol ≡ true) qs
       → total (all_of ps) ≤ largest_degree → total (all_of qs) ≤ largest_degree
@@ -114,4 +114,4 @@ module _ (a : Name → Action) where
       value-product_of x (power_expressions qs)
       ∙ begun x (term_of unit c) (values a (power_expressions qs)) value
       ∙ symbols_value a qs unit c symbols known (omega (arith, total_unit, low))
-      ∙ ap (λ (k : Mono). Ok (term_of k c)) (unit_before a (all_of qs))
+      ∙ ap (λ (k : Mono). Ok (term_of k c)) (unit_before (all_of qs))
