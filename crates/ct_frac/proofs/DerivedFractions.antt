@@ -1,7 +1,7 @@
 -- A derived fraction has the value that δ of the field gives. Main lemmas `raised_ok` and `delta-value`, which `delta` cites.
 -- With D the denominator, g the product of its factors with the name and D'·g = D·s, the numerator is N'·g less N·s: over D·g
 -- this is (N'·D less N·D') over D², the quotient rule.
-use Rattle.std.specs.Prelude.{◌≡◌, refl, ℕ, zero, suc, ◌+◌, pos, Bool, true, false, cond, Ok, Err, List, [], ◌∷◌, ◌++◌, take}
+use Rattle.std.specs.Prelude.{◌≡◌, ◌≢◌, refl, ℕ, zero, suc, ◌+◌, pos, Bool, true, false, cond, Ok, Err, List, [], ◌∷◌, ◌++◌, take}
 use Rattle.std.proofs.Common.{sym, ◌∙◌, ap, ap₂, subst, arith}
 use Rattle.ct_algebra.specs.Actions.{Action, Derive, sigma_by, delta_by}
 use Rattle.ct_algebra.specs.Actions as actions
@@ -21,7 +21,7 @@ use Rattle.ct_frac.specs.declared.factor.Factor.{Factor}
 use Rattle.ct_frac.specs.Arithmetic.{checked_exponent}
 use Rattle.ct_frac.specs.Normal.{normal}
 use Rattle.ct_frac.specs.Symbols.{has_name, with_name, checked_once, checked_part, checked_without_parts, checked_raised, checked_delta}
-use Rattle.ct_frac.specs.Written.{Denominator, Written, IsBelow, AreFactors, IsDenominator, IsWritten, power, product_of, multiplied_out, value}
+use Rattle.ct_frac.specs.Written.{Denominator, Written, IsBelow, AreFactors, IsDenominator, IsWritten, power, product_of, multiplied_out, value, value_over}
 use Rattle.ct_frac.proofs.Clearing.{times_ok}
 use Rattle.ct_frac.proofs.Denominators.{den_nonzero}
 use Rattle.ct_frac.proofs.JoinedFactors.{same_ok}
@@ -193,10 +193,27 @@ module _ (i : Name) where
   sigma_by-same : (t : Action) (p : Polynomial) → t ≡ Derive → sigma_by t i p ≡ p
   sigma_by-same t p derives = ap (λ u. sigma_by u i p) derives
 
+  -- what has the numerator of the quotient rule over another denominator
+  over_derived :
+      (a : Name → Action) (n d x e : Polynomial) → d ≢ polys.zero → e ≢ polys.zero → a i ≡ Derive →
+      times x (times d d) ≡ times (plus (times (derived i n) d) (polys.neg (times n (derived i d)))) e →
+      value_over x e ≡ (coefficients a).δ i (value_over n d)
+  unfolding times plus
+  over_derived a n d x e some other derives cross =
+      value_over-ratio x e other
+      ∙ fractions.equal (ratio x e other) (delta_of polys polys_domain (actions.polynomials a) (plain a) i (ratio n d some))
+      (ap (λ v. times x (times d v)) (sigma_by-same (a i) d derives)
+      ∙ cross
+      ∙ sym (ap₂ (λ u v. times (plus u (polys.neg v)) e)
+      (ap₂ times (delta_by-derived (a i) n derives) (sigma_by-same (a i) d derives))
+      (ap₂ times (sigma_by-same (a i) n derives) (delta_by-derived (a i) d derives))))
+      ∙ sym (δ_value-value polys polys_domain (actions.polynomials a) (plain a) i (ratio n d some))
+      ∙ ap ((coefficients a).δ i) (sym (value_over-ratio n d some))
+
   pub delta-value :
       (w r : Written) → IsWritten w → checked_delta i w ≡ Ok r → (a : Name → Action) → a i ≡ Derive →
       value r ≡ (coefficients a).δ i (value w)
-  unfolding checked_delta value times plus
+  unfolding checked_delta value
   delta-value w r is answer a derives =
       let named = with_name i w.den.factors in
       let once_all = both_fit (checked_once polys.one named) _ r answer in
@@ -207,22 +224,11 @@ module _ (i : Name) where
       let e : Denominator = record { whole = w.den.whole; factors = factors.value } in
       let den = raised_den w.den factors.value is.den factors.first in
       let d = multiplied_out w.den in
-      let some = den_nonzero w.den is.den in
-      let x = ratio w.numerator d some in
       let begun : times (derived i w.numerator) (times polys.one (once named)) ≡ start.value =
       ap₂ times (derived_ok w.numerator derivative.value derivative.first) (once_ok polys.one named once_all.value once_all.first) ∙ times_ok derivative.value once_all.value start.value start.first in
       let cross = same_quotient w.numerator (derived i w.numerator) d (derived i d) (once named) (slope i named) left.value (den_slope w.den)
       (without_parts_ok w.numerator start.value left.value [] named left.first ∙ sym begun) in
       ap value (sym (same_ok (normal left.value e) r factors.rest))
       ∙ normal-value left.value e den
-      ∙ value_over-ratio left.value (multiplied_out e) (den_nonzero e den)
-      ∙ fractions.equal (ratio left.value (multiplied_out e) (den_nonzero e den)) (delta_of polys polys_domain (actions.polynomials a) (plain a) i x)
-      (ap (λ v. times left.value (times d v)) (sigma_by-same (a i) d derives)
-      ∙ cross
-      ∙ ap₂ times
-      (sym (ap₂ (λ u v. plus u (polys.neg v))
-      (ap₂ times (delta_by-derived (a i) w.numerator derives) (sigma_by-same (a i) d derives))
-      (ap₂ times (sigma_by-same (a i) w.numerator derives) (delta_by-derived (a i) d derives))))
-      (sym (multiplied_out-raised w.den factors.value is.den factors.first)))
-      ∙ sym (δ_value-value polys polys_domain (actions.polynomials a) (plain a) i x)
-      ∙ ap ((coefficients a).δ i) (sym (value_over-ratio w.numerator d some))
+      ∙ over_derived a w.numerator d left.value (multiplied_out e) (den_nonzero w.den is.den) (den_nonzero e den) derives
+      (cross ∙ ap (times (plus (times (derived i w.numerator) d) (polys.neg (times w.numerator (derived i d))))) (sym (multiplied_out-raised w.den factors.value is.den factors.first)))
