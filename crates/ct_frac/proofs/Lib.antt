@@ -1,4 +1,3 @@
-pub mod CommonDivisors
 pub mod Quotients
 pub mod Products
 pub mod Denominators

@@ -18,10 +18,10 @@ use Rattle.ct_poly.specs.Division.{quotient}
 use Rattle.ct_poly.proofs.DivisionLaws.{quotient_is}
 use Rattle.ct_frac.specs.declared.factor.Factor.{Factor}
 use Rattle.ct_frac.specs.declared.left.Left.{Left}
-use Rattle.ct_frac.specs.Divisors.{greatest_common}
+use Rattle.ct_int.specs.Divisors.{greatest_common}
 use Rattle.ct_frac.specs.Normal.{on_quotient, divided_out, with_exponent, Lowered, lowered, cancelled, in_lowest_terms, normal}
 use Rattle.ct_frac.specs.Written.{Denominator, Written, AreFactors, IsDenominator, IsWritten, power, product_of, multiplied_out, value, value_over, one_den, whole_polynomial}
-use Rattle.ct_frac.proofs.CommonDivisors.{greatest_common_is, greatest_common_only}
+use Rattle.ct_int.proofs.CommonDivisors.{greatest_common_is, greatest_common_only}
 use Rattle.ct_frac.proofs.Denominators.{factors-kept, number-product, den_nonzero}
 use Rattle.ct_frac.proofs.Products.{times_comm, times_one, one_times, times_left_comm, product_of-append, product_of-with_exponent}
 use Rattle.ct_frac.proofs.Quotients.{same_over}

@@ -32,7 +32,7 @@ use Rattle.ct_frac.proofs.NameFactors.{IsBounded, names_different, differs_from_
 use Rattle.ct_frac.proofs.NormalLaws.{normal-value}
 use Rattle.ct_frac.proofs.Products.{times_comm, times_one, product_of-append, product_of-sorted_onto, one_times}
 use Rattle.ct_frac.proofs.Quotients.{same_over}
-use Rattle.ct_frac.proofs.WholeParts.{content_small}
+use Rattle.ct_poly.proofs.Contents.{content_small}
 use Rattle.ct_frac.proofs.Sorting.{DiffersFrom, AreDifferent, AreApart, sorted_factors, apart_from_none, AreDifferent-append}
 
 -- ---- a constant primitive part is 1

@@ -15,14 +15,15 @@ use Rattle.ct_mono.specs.Checked.{Checked, Answers, both_fit, verdict_ok}
 use Rattle.ct_mono.specs.declared.fault.Fault.{Fault}
 use Rattle.ct_poly.specs.Measures.{checked_plus, checked_minus, checked_times, minus}
 use Rattle.ct_frac.specs.declared.factor.Factor.{Factor}
-use Rattle.ct_frac.specs.Arithmetic.{DividesFactors, checked_whole, checked_joined_all, checked_common, checked_cleared, checked_sum, checked_difference, checked_full_product, checked_product, checked_same_value}
+use Rattle.ct_poly.specs.Wholes.{checked_whole}
+use Rattle.ct_frac.specs.Arithmetic.{DividesFactors, checked_joined_all, checked_common, checked_cleared, checked_sum, checked_difference, checked_full_product, checked_product, checked_same_value}
 use Rattle.ct_frac.specs.Normal.{normal}
 use Rattle.ct_frac.specs.Written.{Denominator, Written, IsDenominator, IsWritten, product_of, multiplied_out, value, value_over, one_den, whole_polynomial}
 use Rattle.ct_frac.proofs.Clearing.{times_ok, cleared_ok}
 use Rattle.ct_frac.proofs.CommonDenominators.{common_divided}
 use Rattle.ct_frac.proofs.Denominators.{den_nonzero, number-product}
 use Rattle.ct_frac.proofs.JoinedFactors.{same_ok, joined_all_ok}
-use Rattle.ct_frac.proofs.Limits.{whole_ok}
+use Rattle.ct_poly.proofs.WholeLimits.{whole_ok}
 use Rattle.ct_frac.proofs.NormalLaws.{normal_written, normal-value, one_is_den, whole_written}
 use Rattle.ct_frac.proofs.Products.{times_left_comm}
 use Rattle.ct_frac.proofs.Quotients.{same_over, over-sum, over-times, over-negative, over_zero, times_nonzero}

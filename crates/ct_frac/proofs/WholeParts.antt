@@ -1,42 +1,23 @@
 -- A polynomial over a whole number that divides each coefficient: times the number it is the polynomial, and its content
 -- times the number divides the content. Main lemmas `each_divides`, `part_whole` and `content_of_part`, which Normal cites.
-use Rattle.std.specs.Prelude.{◌≡◌, refl, ℕ, zero, suc, ◌*◌, ◌/◌, ◌<◌, ◌≤◌, ℤ, pos, negsuc, neg_ℤ, ◌*ℤ◌, int_div, unsigned_abs, ◌-◌, Bool, true, false, cond, T, List, [], ◌∷◌, map}
-use Rattle.std.proofs.Common.{Ordering, Less, Equal, Greater, sym, ◌∙◌, ap, ap₂, subst, arith}
+use Rattle.std.specs.Prelude.{◌≡◌, refl, ℕ, zero, suc, ◌*◌, ℤ, pos, negsuc, ◌*ℤ◌, int_div, unsigned_abs, true, false, cond, T, List, [], ◌∷◌, map}
+use Rattle.std.proofs.Common.{Ordering, Less, Equal, Greater, sym, ◌∙◌, ap, ap₂, subst}
 use Rattle.std.specs.Int.{◌∣◌}
 use Rattle.std.proofs.lemmas.Int.{unsigned_abs-mul}
-use Rattle.std.proofs.Math.Nat.{div-mul_cancel, mul-dvd-mul_right, one-dvd}
-use Rattle.ct_algebra.specs.Monomial.{Mono, monomials, mono_cmp, exp, mono, exp-mono, same_mono, exp-unit, unit}
-use Rattle.ct_algebra.specs.Polynomial.{Polynomial, polys, times, count, norm}
-use Rattle.ct_algebra.specs.Ring.{neg_mul}
-use Rattle.ct_algebra.specs.Substitution.{number, number_is, one_is}
+use Rattle.std.proofs.Math.Nat.{mul-dvd-mul_right}
+use Rattle.ct_algebra.specs.Monomial.{Mono, monomials, mono_cmp, unit}
+use Rattle.ct_algebra.specs.Polynomial.{Polynomial, polys, times}
+use Rattle.ct_algebra.specs.Substitution.{number, number_is}
 use Rattle.ct_algebra.specs.Terms.{AllBelow, EachTerm, IsCanonical, by_order, pick, value_at}
-use Rattle.ct_algebra.specs.WholeNumbers.{int_group, int_ring, int_is_zero}
+use Rattle.ct_algebra.specs.WholeNumbers.{int_group, int_is_zero}
 use Rattle.ct_algebra.specs.Sums.{at, at-negated}
 use Rattle.ct_algebra.specs.Group.{neg_sum, neg_zero}
 use Rattle.ct_algebra.specs.Laws.Terms.{same_list}
-use Rattle.ct_mono.specs.Limits.{most_terms, largest_norm}
-use Rattle.ct_poly.specs.Content.{DividesAll, TermDivides, divides_each, greatest_up_to, content, divided}
-use Rattle.ct_poly.proofs.CommonMonomials.{exp_divides}
+use Rattle.ct_poly.specs.Content.{DividesAll, TermDivides, content, divided}
+use Rattle.ct_poly.proofs.WholeDivisors.{each_divides}
 use Rattle.ct_poly.proofs.Contents.{content_is, content_only}
 use Rattle.ct_poly.proofs.DividedTerms.{quotients, divisor_nonzero, divided_whole, divided_terms}
-use Rattle.ct_poly.proofs.OfTerms.{divided_kept, list_of}
-use Rattle.ct_poly.proofs.Values.{IsKept}
 use Rattle.ct_poly.proofs.WholeQuotients.{int_div-*}
-use Rattle.ct_poly.specs.Terms.{entries}
-use Rattle.ct_poly.specs.declared.term.Term.{Term}
-use Rattle.ct_frac.specs.Code.{part_of}
-use Rattle.ct_frac.proofs.Products.{one_times}
-
-multiple : (g : ℕ) (c : ℤ) (k : ℕ) → k * g ≡ unsigned_abs c → (q : ℤ) × (q *ℤ pos g ≡ c)
-multiple g (pos n) k same = (pos k, ap pos same)
-multiple g (negsuc n) k same = (neg_ℤ (pos k), neg_mul int_ring (pos k) (pos g) ∙ ap (λ x. neg_ℤ (pos x)) same)
-
-pub each_divides : (g : ℕ) (es : List (Mono × ℤ)) → DividesAll g es → EachTerm (TermDivides unit (pos g)) es
-each_divides g [] all = tt
-each_divides g (e ∷ es) all = (
-  (exp_divides unit e.0 (λ i small. omega (arith, exp-unit i small)), multiple g e.1 (unsigned_abs e.1 / g) (div-mul_cancel g all.0)),
-  each_divides g es all.1,
-)
 
 pub all_divided : (g : ℕ) (p : Polynomial) → g ∣ content p → EachTerm (TermDivides unit (pos g)) p.terms
 all_divided g p divides = each_divides g p.terms ((content_is p g).0 divides)
@@ -67,38 +48,7 @@ content_of_part x g p divides more =
     subst (DividesAll x) (divided_terms unit (pos g) p each) ((content_is (divided unit (pos g) p) x).0 more) in
     (content_is p (x * g)).1 (times_each x g p.terms p.canonical each all)
 
-pub part_one : (p : Polynomial) → divided unit (pos 1) p ≡ p
-part_one p = sym (one_times (divided unit (pos 1) p)) ∙ ap (λ w. times w (divided unit (pos 1) p)) one_is ∙ part_whole 1 p (one-dvd (content p))
-
--- ---- the list of the quotients
-
-pub entries-parts : (g : ℕ) (ts : List Term) → entries (map (part_of g) ts) ≡ quotients unit (pos g) (entries ts)
-entries-parts g [] = refl
-entries-parts g (t ∷ ts) =
-    ap₂ ◌∷◌ (ap (λ m. (m, int_div t.coef (pos g))) (same_mono t.mono (mono (λ i. exp t.mono i - exp unit i)) (λ i small. exps i small))) (entries-parts g ts)
-  where
-    exps : (i : ℕ) → i < 6 → exp t.mono i ≡ exp (mono (λ i. exp t.mono i - exp unit i)) i
-    exps i small = let given = exp-mono (λ i. exp t.mono i - exp unit i) i small in let none = exp-unit i small in omega arith
-
-pub parts_kept :
-    (g : ℕ) (p : Polynomial) (ts v : List Term) → g ∣ content p → entries ts ≡ p.terms → count p ≤ most_terms → norm p ≤ largest_norm →
-    v ≡ map (part_of g) ts → IsKept (divided unit (pos g) p) v
-parts_kept g p ts v divides same few small made =
-    divided_kept unit (pos g) ts v (list_of ts same few small) same (all_divided g p divides) (ap entries made ∙ entries-parts g ts)
-
 -- ---- contents
-
-greatest_small : (n : ℕ) (es : List (Mono × ℤ)) → greatest_up_to n es ≤ n
-greatest_small zero es = omega arith
-greatest_small (suc n) es = by (divides_each (suc n) es) (greatest_small n es)
-  where
-    by : (b : Bool) → greatest_up_to n es ≤ n → cond b (suc n) (greatest_up_to n es) ≤ suc n
-    by true low = omega arith
-    by false low = omega arith
-
-pub content_small : (p : Polynomial) → content p ≤ norm p
-unfolding content
-content_small p = greatest_small (norm p) p.terms
 
 abbrev negatives : List (Mono × ℤ) → List (Mono × ℤ)
 negatives es = map (λ e. (e.0, int_group.neg e.1)) es

@@ -14,12 +14,13 @@ use Rattle.ct_algebra.specs.Polynomial.{Polynomial, polys}
 use Rattle.ct_algebra.specs.Substitution.{number}
 use Rattle.ct_algebra.specs.Terms.{by_order}
 use Rattle.ct_mono.specs.Checked.{Checked, verdict, ◌>>=◌}
-use Rattle.ct_mono.specs.Limits.{largest_degree, largest_norm}
-use Rattle.ct_mono.specs.declared.fault.Kind.TheVariants.{Degree, Number}
+use Rattle.ct_mono.specs.Limits.{largest_degree}
+use Rattle.ct_mono.specs.declared.fault.Kind.TheVariants.{Degree}
 use Rattle.ct_poly.specs.Measures.{checked_plus, checked_minus, checked_times, broken}
 use Rattle.ct_poly.specs.Order.{poly_cmp}
+use Rattle.ct_poly.specs.Wholes.{checked_whole}
 use Rattle.ct_frac.specs.declared.factor.Factor.{Factor}
-use Rattle.ct_frac.specs.Divisors.{least_common}
+use Rattle.ct_int.specs.Divisors.{least_common}
 use Rattle.ct_frac.specs.Normal.{normal}
 use Rattle.ct_frac.specs.Written.{Denominator, Written, one_den, whole_polynomial}
 
@@ -39,10 +40,6 @@ joined_greatest f (g ∷ gs) =
 abbrev pub all_greatest : List Factor → List Factor → List Factor
 all_greatest done [] = done
 all_greatest done (f ∷ fs) = all_greatest (joined_greatest f done) fs
-
--- a whole number, unless it passes the limit
-unfoldable pub checked_whole : ℕ → Checked ℕ
-checked_whole n = verdict (broken (ltb largest_norm n) Number None) n
 
 -- an exponent, unless it passes the limit
 unfoldable pub checked_exponent : ℕ → Checked ℕ

@@ -2,13 +2,10 @@
 --     EachIsWritten ws, EachDivides ws d     of a list: written forms; whose denominators divide d factor by factor
 --     WrittenValueIsAQuotient                the value of a written fraction times its denominator is its numerator
 --     CommonDenominatorIsDivided             each denominator of a list divides the common one, which is in written form
---     GreatestCommonIsGcd                    the greatest number that divides two is their greatest common divisor
-use Rattle.std.specs.Prelude.{◌≡◌, ℕ, ◌<◌, Ok, List, [], ◌∷◌}
-use Rattle.std.specs.Int.{IsGcd}
+use Rattle.std.specs.Prelude.{◌≡◌, Ok, List, [], ◌∷◌}
 use Rattle.ct_algebra.specs.Field.{field}
 use Rattle.ct_algebra.specs.FieldLaws.{embedded}
 use Rattle.ct_frac.specs.Arithmetic.{DividesFactors, checked_common}
-use Rattle.ct_frac.specs.Divisors.{greatest_common}
 use Rattle.ct_frac.specs.Written.{Denominator, Written, IsDenominator, IsWritten, multiplied_out, value, one_den}
 
 abbrev pub EachIsWritten : List Written → Type 0
@@ -26,6 +23,3 @@ WrittenValueIsAQuotient =
 abbrev pub CommonDenominatorIsDivided : Type 0
 CommonDenominatorIsDivided =
     (ws : List Written) (d : Denominator) → EachIsWritten ws → checked_common one_den ws ≡ Ok d → IsDenominator d × EachDivides ws d
-
-abbrev pub GreatestCommonIsGcd : Type 0
-GreatestCommonIsGcd = (m c : ℕ) → 0 < c → IsGcd m c (greatest_common m c)

@@ -1,5 +1,4 @@
 pub mod Written
-pub mod Divisors
 pub mod Normal
 pub mod Code
 pub mod Arithmetic

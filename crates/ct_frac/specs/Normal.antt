@@ -19,7 +19,7 @@ use Rattle.ct_poly.specs.Division.{quotient}
 use Rattle.ct_poly.specs.Order.{poly_cmp}
 use Rattle.ct_frac.specs.declared.factor.Factor.{Factor}
 use Rattle.ct_frac.specs.declared.left.Left.{Left}
-use Rattle.ct_frac.specs.Divisors.{greatest_common}
+use Rattle.ct_int.specs.Divisors.{greatest_common}
 use Rattle.ct_frac.specs.Written.{Denominator, Written, whole_polynomial}
 
 -- ---- Normal

@@ -1,17 +1,14 @@
 // Common denominators.
-ghost use Rattle.std.specs.Prelude.{◌≡◌, ◌*◌, ◌<◌, ◌≤◌, IfOk};
+ghost use Rattle.std.specs.Prelude.{◌≡◌, IfOk};
 ghost use Rattle.ct_mono.specs.Checked.{Answers};
-ghost use Rattle.ct_frac.specs.Divisors.{least_common};
 ghost use Rattle.ct_frac.specs.Written.{one_den};
-ghost use Rattle.ct_frac.specs.Arithmetic.{joined_greatest, all_greatest, checked_whole, checked_wider, checked_common};
+ghost use Rattle.ct_frac.specs.Arithmetic.{joined_greatest, all_greatest, checked_wider, checked_common};
 
 use crate::den::Den;
 use crate::factor::Factor;
 use crate::frac::Frac;
 use crate::insertion::{Place, found, put_before, with_exp_at};
-use ct_int::gcd;
-use ct_mono::LARGEST_NORM;
-use ct_poly::{Fault, Kind, NoMemory};
+use ct_poly::{Fault, NoMemory, least_common_multiple};
 use std::alloc::Global;
 
 // The least denominator that those of all fractions divide.
@@ -37,25 +34,6 @@ pub fn wider(alloc: Global, d: Den, e: &Den) -> Result<Den, Fault>
     let whole = least_common_multiple(d.whole(), e.whole())?;
     let factors = greatest_of_all(alloc, d.factors, e.factors())?;
     Ok(Den { whole, factors })
-}
-
-fn least_common_multiple(a: u128, b: u128) -> Result<u128, Fault>
-    requires { 0 < b }
-    ensures { Answers (checked_whole (least_common a b)) result }
-{
-    whole_product(a / gcd(a, b), b)
-}
-
-/// A product of whole numbers, unless it passes the limit.
-pub fn whole_product(a: u128, b: u128) -> Result<u128, Fault>
-    ensures { Answers (checked_whole (a * b)) result }
-{
-    let product = a.saturating_mul(b);
-    if product > LARGEST_NORM {
-        Err(Fault::Overflow(Kind::Number))
-    } else {
-        Ok(product)
-    }
 }
 
 // Each factor of both lists, with the greater exponent.

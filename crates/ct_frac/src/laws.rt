@@ -1,5 +1,5 @@
 // The laws of written fractions, as functions with no code.
-ghost use Rattle.ct_frac.specs.FractionLaws.{WrittenValueIsAQuotient, CommonDenominatorIsDivided, GreatestCommonIsGcd};
+ghost use Rattle.ct_frac.specs.FractionLaws.{WrittenValueIsAQuotient, CommonDenominatorIsDivided};
 
 /// The value of a written fraction times its denominator is its numerator.
 pub fn written_value_is_a_quotient()
@@ -9,9 +9,4 @@ pub fn written_value_is_a_quotient()
 /// Each denominator of a list divides the common one, factor by factor.
 pub fn common_denominator_is_divided()
     ensures { CommonDenominatorIsDivided }
-{}
-
-/// The greatest number that divides two is their greatest common divisor.
-pub fn greatest_common_is_gcd()
-    ensures { GreatestCommonIsGcd }
 {}

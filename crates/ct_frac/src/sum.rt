@@ -6,7 +6,7 @@ ghost use Rattle.ct_frac.specs.Arithmetic.{checked_sum, checked_difference, chec
 ghost use Rattle.ct_frac.specs.Written.{one_den};
 
 use crate::clear::cleared;
-use crate::common::{whole_product, wider};
+use crate::common::wider;
 use crate::den::Den;
 use crate::factor::Factor;
 use crate::frac::Frac;
@@ -14,7 +14,7 @@ use crate::insertion::{Place, found, put_before, with_exp_at};
 use crate::normal::brought_to_normal;
 use crate::same::copy_of_factors;
 use ct_mono::LARGEST_DEGREE;
-use ct_poly::{Fault, Kind};
+use ct_poly::{Fault, Kind, whole_product};
 use std::alloc::Global;
 
 #[tactic(auto, unfolding(crate::specs::Arithmetic::checked_sum))]

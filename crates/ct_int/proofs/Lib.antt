@@ -4,3 +4,5 @@ pub mod LowestTerms
 pub mod OperationLaws
 pub mod WideProducts
 pub mod ValueLaws
+pub mod CommonDivisors
+pub mod CommonMultiples

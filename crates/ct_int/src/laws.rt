@@ -1,4 +1,5 @@
-// The laws of values, each a function with no code.
+// The laws of values and of common divisors, each a function with no code.
+ghost use Rattle.ct_int.specs.DivisorLaws.{GreatestCommonIsGcd};
 ghost use Rattle.ct_int.specs.RationalLaws.{LowestTermsAreUnique, LowestTermsExist, SumsAreByValue, ProductsAreByValue, DifferenceUndoesSum, QuotientUndoesProduct, OrderIsByValue, OrderIsTotal};
 
 /// Ratios of one value have one lowest terms.
@@ -39,4 +40,9 @@ pub fn order_is_by_value()
 /// The order of the values is total.
 pub fn order_is_total()
     ensures { OrderIsTotal }
+{}
+
+/// The greatest number that divides two is their greatest common divisor.
+pub fn greatest_common_is_gcd()
+    ensures { GreatestCommonIsGcd }
 {}

@@ -19,7 +19,7 @@ use Rattle.ct_poly.specs.Terms.{entries}
 use Rattle.ct_poly.proofs.TermLists.{no_length}
 use Rattle.ct_poly.proofs.WholeQuotients.{zero_abs}
 
-some_content : (es : List (Mono × ℤ)) → (g : ℕ) × IsContentOf es g
+pub some_content : (es : List (Mono × ℤ)) → (g : ℕ) × IsContentOf es g
 some_content [] = (0, λ d. (λ h. tt, λ h. dvd-zero d))
 some_content (e ∷ es) = more (some_content es)
   where
@@ -71,17 +71,20 @@ greatest_divides (suc n) es some = by (divides_each (suc n) es) refl some (great
 
 -- ---- it is the one whose divisors are the common ones
 
+-- a bound that is large enough makes no difference
+pub greatest_within : (n : ℕ) (es : List (Mono × ℤ)) (g : ℕ) → IsContentOf es g → 0 < g → g ≤ n → g ≡ greatest_up_to n es
+greatest_within n es g is some within =
+    let above : g ≤ greatest_up_to n es = greatest_is_above n es g within ((is g).0 (dvd_refl g)) in
+    let below : greatest_up_to n es ∣ g = (is _).1 (greatest_divides n es (omega (arith, above, some))) in
+    omega (arith, above, le_of_dvd some below)
+
 greatest_is : (es : List (Mono × ℤ)) (g : ℕ) → IsCanonical monomials int_group es → IsContentOf es g → g ≡ greatest_up_to (norm_of es) es
 greatest_is [] g canonical is = eq-zero_of_zero-dvd ((is 0).1 tt)
 greatest_is (e ∷ es) g canonical is =
     let all : DividesAll g (e ∷ es) = (is g).0 (dvd_refl g) in
     let some : 0 < unsigned_abs e.1 = positive in
     let bounded : g ≤ unsigned_abs e.1 = le_of_dvd some all.0 in
-    let within : g ≤ norm_of (e ∷ es) = omega (arith, bounded, sum_by-cons (λ d. unsigned_abs d.1) e es) in
-    let above : g ≤ greatest_up_to (norm_of (e ∷ es)) (e ∷ es) = greatest_is_above (norm_of (e ∷ es)) (e ∷ es) g within all in
-    let more : 0 < g = nonzero g all.0 some in
-    let below : greatest_up_to (norm_of (e ∷ es)) (e ∷ es) ∣ g = (is _).1 (greatest_divides (norm_of (e ∷ es)) (e ∷ es) (omega (arith, above, more))) in
-    omega (arith, above, le_of_dvd more below)
+    greatest_within (norm_of (e ∷ es)) (e ∷ es) g is (nonzero g all.0 some) (omega (arith, bounded, sum_by-cons (λ d. unsigned_abs d.1) e es))
   where
     positive : 0 < unsigned_abs e.1
     positive = by (unsigned_abs e.1) refl

@@ -80,7 +80,7 @@ divided_whole m d p each =
 
 -- ---- the list
 
-size-quotients : (m : Mono) (d : ℤ) (es : List (Mono × ℤ)) → IsCanonical monomials int_group es → EachTerm (TermDivides m d) es → norm_of (quotients m d es) ≤ norm_of es
+pub size-quotients : (m : Mono) (d : ℤ) (es : List (Mono × ℤ)) → IsCanonical monomials int_group es → EachTerm (TermDivides m d) es → norm_of (quotients m d es) ≤ norm_of es
 size-quotients m d [] canonical each = omega arith
 size-quotients m d (e ∷ es) canonical each = by each.0.1
   where
@@ -95,7 +95,7 @@ size-quotients m d (e ∷ es) canonical each = by each.0.1
         sym (norm_of-row (m, d) (quotients m d (e ∷ es))) ∙ ap norm_of (row-quotients m d (e ∷ es) canonical each) in
         at_most (nat_abs d) _ _ some size
 
-length-quotients : (m : Mono) (d : ℤ) (es : List (Mono × ℤ)) → length (quotients m d es) ≡ length es
+pub length-quotients : (m : Mono) (d : ℤ) (es : List (Mono × ℤ)) → length (quotients m d es) ≡ length es
 length-quotients m d [] = refl
 length-quotients m d (e ∷ es) = ap (λ n. suc n) (length-quotients m d es)
 

@@ -1,5 +1,6 @@
 pub mod TermLists
 pub mod OverflowRules
+pub mod WholeLimits
 pub mod Merging
 pub mod Termwise
 pub mod Negatives
@@ -15,6 +16,7 @@ pub mod WholeQuotients
 pub mod Contents
 pub mod CommonMonomials
 pub mod DividedTerms
+pub mod WholeDivisors
 pub mod PrimitiveParts
 pub mod OfTerms
 pub mod Parts

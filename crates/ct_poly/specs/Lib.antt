@@ -1,5 +1,6 @@
 pub mod Terms
 pub mod Measures
+pub mod Wholes
 pub mod Division
 pub mod Content
 pub mod ContentLaws

@@ -25,8 +25,10 @@ mod sum;
 mod term;
 #[cfg(test)]
 mod tests;
+mod whole;
 
 pub use ct_mono::{Fault, Kind, LARGEST_DEGREE, LARGEST_NORM, MOST_TERMS, Monomial, NoMemory};
 pub use poly::Poly;
 pub use split::Split;
 pub use term::Term;
+pub use whole::{least_common_multiple, whole_product};

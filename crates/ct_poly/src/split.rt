@@ -1,8 +1,9 @@
 // A polynomial in parts: sign, content, common monomial and primitive part.
-ghost use Rattle.std.specs.Prelude.{◌≡◌, ◌≢◌, ◌≤◌, IfOk};
+ghost use Rattle.std.specs.Prelude.{◌≡◌, ◌≢◌, ◌≤◌, IfOk, pos};
+ghost use Rattle.ct_algebra.specs.Monomial.{unit};
 ghost use Rattle.ct_algebra.specs.Polynomial.{polys};
 ghost use Rattle.ct_algebra.specs.Terms.{EachTerm};
-ghost use Rattle.ct_poly.specs.Content.{TermDivides, divided, content, common_monomial, is_negative, signed, signed_content, primitive_form, primitive_part};
+ghost use Rattle.ct_poly.specs.Content.{DividesEach, TermDivides, divided, content, common_monomial, is_negative, signed, signed_content, primitive_form, primitive_part};
 ghost use Rattle.ct_mono.specs.Limits.{largest_norm};
 
 use crate::content::{
@@ -54,6 +55,15 @@ impl Poly {
         ensures value { IfOk result (λ p. p ≡ primitive_form self.now) }
     {
         self.divided(alloc, &Monomial::one(), self.signed_content())
+    }
+
+    /// The quotient by a whole number that divides every coefficient.
+    pub fn over_whole(&self, alloc: Global, divisor: u128) -> Result<Poly, NoMemory>
+        requires within { divisor ≤ largest_norm }
+        requires divides { DividesEach divisor self.now }
+        ensures value { IfOk result (λ p. p ≡ divided unit (pos divisor) self.now) }
+    {
+        self.divided(alloc, &Monomial::one(), divisor as i128)
     }
 
     fn divided(&self, alloc: Global, mono: &Monomial, divisor: i128) -> Result<Poly, NoMemory>

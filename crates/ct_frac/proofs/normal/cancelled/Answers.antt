@@ -1,12 +1,9 @@
 use Rattle.std.proofs.Common.{sym, subst, arith}
 use Rattle.std.specs.Int.{IsGcd}
 use Rattle.ct_frac.specs.Written.{IsWritten, IsDenominator}
-use Rattle.ct_frac.proofs.CommonDivisors.{divisor_positive, divisor_small}
+use Rattle.ct_int.proofs.CommonDivisors.{divisor_positive, divisor_small}
 use Rattle.ct_frac.proofs.NormalLaws.{cancelled_is}
 use Rattle.ct_frac.proofs.normal.cancelled.Goals as goal
-
-pub divided_by_number-requires-clause-positive : goal.divided_by_number-requires-clause-positive
-divided_by_number-requires-clause-positive c = divisor_positive _ _ _ c.requires.positive c.gcd-divisor.ensures
 
 pub divided_by_number-requires-clause-within : goal.divided_by_number-requires-clause-within
 divided_by_number-requires-clause-within c =

@@ -1,7 +1,7 @@
 use Rattle.std.proofs.Common.{◌≡◌, ◌≤◌, ◌*◌, Ok, ◌∙◌, ap, arith}
 use Rattle.ct_mono.specs.Limits.{largest_norm}
-use Rattle.ct_frac.proofs.Limits.{whole_fits, whole_passes}
-use Rattle.ct_frac.proofs.common.whole_product.Goals as goal
+use Rattle.ct_poly.proofs.WholeLimits.{whole_fits, whole_passes}
+use Rattle.ct_poly.proofs.whole.whole_product.Goals as goal
 
 pub returns-then-product-gt-LARGEST_NORM : goal.returns-then-product-gt-LARGEST_NORM
 returns-then-product-gt-LARGEST_NORM c =

@@ -1,7 +1,7 @@
 -- Greatest common divisors and least common multiples of whole numbers.
 --     greatest_common m c   the greatest number that divides both, for c above 0
 --     least_common m c      the least number that both divide
--- `greatest_common` is std's IsGcd: law `greatest_common_is`.
+-- `greatest_common` is std's IsGcd: law `greatest_common_is_gcd`.
 use Rattle.std.specs.Prelude.{ℕ, zero, suc, ◌*◌, ◌/◌, ◌%◌, cond, eqb, ◌&&◌}
 
 -- the greatest number up to k that divides both

@@ -1,9 +1,9 @@
 use Rattle.std.proofs.Common.{◌*◌, ◌/◌, subst}
 use Rattle.ct_mono.specs.Checked.{Answers}
-use Rattle.ct_frac.specs.Arithmetic.{checked_whole}
-use Rattle.ct_frac.specs.Divisors.{least_common}
-use Rattle.ct_frac.proofs.CommonDivisors.{divisor_positive, greatest_common_only}
-use Rattle.ct_frac.proofs.common.least_common_multiple.Goals as goal
+use Rattle.ct_poly.specs.Wholes.{checked_whole}
+use Rattle.ct_int.specs.Divisors.{least_common}
+use Rattle.ct_int.proofs.CommonDivisors.{divisor_positive, greatest_common_only}
+use Rattle.ct_poly.proofs.whole.least_common_multiple.Goals as goal
 
 pub nonzero_div-a : goal.nonzero_div-a
 nonzero_div-a c = divisor_positive c.args.a c.args.b c.gcd.result c.requires c.gcd.ensures
