@@ -20,7 +20,7 @@ use Rattle.ct_problem.specs.WellFormed.{Each}
 use Rattle.ct_answer.specs.declared.factors.Power.{Power}
 use Rattle.ct_answer.specs.Text.{names_in, symbols_in}
 use Rattle.ct_answer.proofs.SumMeasures.{size, length-row, size-row}
-use Rattle.ct_answer.proofs.PlainProducts.{terms-term, term_count-one, term_norm-one}
+use Rattle.ct_ore.proofs.OneTerm.{terms-term, term_count-one, term_norm-one}
 use Rattle.ct_answer.proofs.PowerMonomials.{all_of, all_of-powers, all_are}
 use Rattle.ct_answer.proofs.PowerValues.{IsSmall}
 use Rattle.ct_answer.proofs.TermValues.{before_symbols_value}

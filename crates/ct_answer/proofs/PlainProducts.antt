@@ -1,72 +1,27 @@
 -- Products in which nothing passes a symbol: by powers of names before symbols, and by powers of symbols behind names.
 -- Main lemmas `times_names` and `times_symbols`: every pair of terms makes one term, so the product is within the limits where
 -- its value is.
-use Rattle.std.proofs.Common.{◌≡◌, ◌≢◌, ◌⊎◌, inl, inr, ℕ, ◌+◌, ◌*◌, ◌^◌, ◌≤◌, Bool, true, false, cond, eqb, ltb, le-ltb, max, ℤ, pos, nat_abs, List, [], ◌∷◌, length, map, None, T, Option, Ok, refl, sym, ap, ap₂, ◌∙◌, subst, arith, append-nil, min}
+use Rattle.std.proofs.Common.{◌≡◌, ◌≢◌, ◌⊎◌, inl, inr, ℕ, ◌+◌, ◌*◌, ◌^◌, ◌≤◌, Bool, true, false, cond, eqb, ltb, le-ltb, ℤ, pos, nat_abs, List, [], ◌∷◌, length, None, Option, Ok, refl, sym, ap, ap₂, ◌∙◌, subst, arith, min}
 use native.Mathlib.Nat.{pow-zero}
 use Rattle.std.specs.List.{sum_by}
 use Rattle.std.proofs.lemmas.List.Sums.{sum_by-cons}
 use Rattle.ct_algebra.specs.Sums.{none}
-use Rattle.ct_algebra.specs.Monomial.{Mono, exp, total, mono, unit, ◌·◌, ·_assoc, ·_comm, ·-unit, exp-unit}
+use Rattle.ct_algebra.specs.Monomial.{Mono, exp, total, unit, ◌·◌, ·_assoc, ·_comm, ·-unit, exp-unit}
 use Rattle.ct_algebra.specs.Names.{Name, x0, x1, x2, x3, x4, x5, place, place_small, symbol, power, power_unit, power_symbol, by_symbols}
-use Rattle.ct_algebra.specs.Polynomial.{Polynomial, polys, terms-poly_of, times, count, norm, norm_of, degree, degree_of}
+use Rattle.ct_algebra.specs.Polynomial.{Polynomial, polys, times, count, norm, norm_of, degree, degree_of}
 use Rattle.ct_algebra.specs.Substitution.{term, number_is, one_is}
-use Rattle.ct_algebra.specs.WholeNumbers.{int_is_zero}
 use Rattle.ct_algebra.specs.Actions.{Action, Shift, Derive, Still, by_action}
 use Rattle.ct_algebra.specs.Operators.{Operator, term_of, product_of, symbol_before, multiple}
 use Rattle.ct_algebra.proofs.ProductRule.{multiple-term_of, product_of-term_of, product_of-polynomial, multiple-one_term, symbol_before-one, symbols_commute}
 use Rattle.ct_mono.specs.Checked.{verdict}
 use Rattle.ct_mono.specs.Limits.{largest_degree, most_terms, largest_norm}
-use Rattle.ct_poly.proofs.TermLists.{poly_of-single}
 use Rattle.ct_mono.specs.declared.fault.Kind.{Kind}
 use Rattle.ct_ore.specs.declared.coefficient_term.CoefficientTerm.{CoefficientTerm}
-use Rattle.ct_ore.specs.Measures.{row_of, all_terms, coefficient_terms, term_count, term_norm, greatest, coefficient_degree, order_of, product_count, product_norm, product_overflow, checked_product, count_of_pair, weight_of_pair}
+use Rattle.ct_ore.specs.Measures.{row_of, coefficient_terms, coefficient_degree, order_of, product_count, product_norm, product_overflow, checked_product, count_of_pair, weight_of_pair}
 use Rattle.ct_ore.specs.PairWeights.{over_names, pair_count, pair_weight, derivation_weight, ways_below}
-use Rattle.ct_ore.proofs.OperatorMeasures.{terms-term_of}
+use Rattle.ct_ore.proofs.OneTerm.{terms-term, some_term, coefficient_terms-one, coefficient_degree-one, order_of-one, total_unit}
 use Rattle.ct_ore.proofs.PairWeightLaws.{derivation_weight-min, power_of_one}
 use Rattle.ct_ore.proofs.ProductRules.{FitsProduct}
-use Rattle.ct_answer.proofs.SumMeasures.{length-row, size-row, size}
-
--- ---- polynomials of one term
-
-pub terms-term : (n : Mono) (x : ℤ) → T (cond (int_is_zero x) false true) → (term n x).terms ≡ (n, x) ∷ []
-terms-term n x some = ap (λ (p : Polynomial). p.terms) (sym (poly_of-single n x)) ∙ terms-poly_of ((n, x) ∷ []) (some, tt, tt)
-
-pub some_term : (n : Mono) (x : ℤ) → T (cond (int_is_zero x) false true) → term n x ≢ polys.zero
-unfolding none
-some_term n x some absent =
-    let one : (n, x) ∷ [] ≡ polys.zero.terms = sym (terms-term n x some) ∙ ap (λ (p : Polynomial). p.terms) absent in
-    let counted : 1 ≡ 0 = ap (λ (es : List (Mono × ℤ)). length es) one in
-    absurd (omega (arith, counted))
-
--- ---- the measures of one term
-
-module _ (m : Mono) (c : Polynomial) (some : c ≢ polys.zero) where
-  terms : (term_of m c).terms ≡ (m, c) ∷ []
-  terms = terms-term_of m c some
-
-  pub coefficient_terms-one : coefficient_terms (term_of m c) ≡ row_of m c.terms
-  unfolding coefficient_terms
-  coefficient_terms-one = ap all_terms terms ∙ append-nil (row_of m c.terms)
-
-  pub term_count-one : term_count (term_of m c) ≡ count c
-  unfolding term_count count
-  term_count-one = ap length coefficient_terms-one ∙ length-row m c.terms
-
-  pub term_norm-one : term_norm (term_of m c) ≡ norm c
-  unfolding term_norm norm
-  term_norm-one = ap (sum_by size) coefficient_terms-one ∙ size-row m c.terms
-
-  pub coefficient_degree-one : coefficient_degree (term_of m c) ≡ degree c
-  unfolding coefficient_degree
-  coefficient_degree-one = let e : max (degree c) 0 ≡ degree c = omega arith in ap (λ (es : List (Mono × Polynomial)). greatest (map (λ (e : Mono × Polynomial). degree e.1) es)) terms ∙ e
-
-  pub order_of-one : order_of (term_of m c) ≡ total m
-  unfolding order_of
-  order_of-one = let e : max (total m) 0 ≡ total m = omega arith in ap (λ (es : List (Mono × Polynomial)). greatest (map (λ (e : Mono × Polynomial). total e.0) es)) terms ∙ e
-
-pub total_unit : total unit ≡ 0
-unfolding total unit mono
-total_unit = refl
 
 -- ---- pairs
 

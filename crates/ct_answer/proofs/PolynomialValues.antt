@@ -20,7 +20,7 @@ use Rattle.ct_problem.specs.Value.{value_of}
 use Rattle.ct_problem.specs.WellFormed.{Each}
 use Rattle.ct_answer.specs.declared.factors.Power.{Power}
 use Rattle.ct_answer.specs.Text.{names_in}
-use Rattle.ct_answer.proofs.PlainProducts.{terms-term, total_unit, term_count-one, term_norm-one}
+use Rattle.ct_ore.proofs.OneTerm.{terms-term, total_unit, term_count-one, term_norm-one}
 use Rattle.ct_answer.proofs.PowerMonomials.{all_of, all_of-powers, all_are}
 use Rattle.ct_answer.proofs.PowerValues.{small_term}
 use Rattle.ct_answer.proofs.TermValues.{term_value}

@@ -19,7 +19,8 @@ use Rattle.ct_problem.specs.WellFormed.{Each}
 use Rattle.ct_answer.specs.declared.factors.Power.{Power}
 use Rattle.ct_answer.proofs.PowerMonomials.{raised, raised-one, monomial_of, all_of, unit_before}
 use Rattle.ct_answer.proofs.PrintedExpressions.{power_expression, power_expressions}
-use Rattle.ct_answer.proofs.PlainProducts.{terms-term, some_term, total_unit, times_names, times_symbols}
+use Rattle.ct_ore.proofs.OneTerm.{terms-term, some_term, total_unit}
+use Rattle.ct_answer.proofs.PlainProducts.{times_names, times_symbols}
 
 -- ---- polynomials within the limits
 

@@ -18,7 +18,8 @@ use Rattle.ct_problem.specs.Value.{value_of, values, product_from}
 use Rattle.ct_problem.proofs.Values.{value_of-Whole, value_of-Product}
 use Rattle.ct_problem.specs.WellFormed.{Each}
 use Rattle.ct_answer.specs.declared.factors.Power.{Power}
-use Rattle.ct_answer.proofs.PlainProducts.{total_unit, times_symbols}
+use Rattle.ct_ore.proofs.OneTerm.{total_unit}
+use Rattle.ct_answer.proofs.PlainProducts.{times_symbols}
 use Rattle.ct_answer.proofs.PowerMonomials.{monomial_of, all_of, unit_before}
 use Rattle.ct_answer.proofs.PowerValues.{IsSmall, small_term, small_one, one_is_term, more_names, value-name, value-symbol, names_value, symbols_value}
 use Rattle.ct_answer.proofs.PrintedExpressions.{power_expression, power_expressions, term_expression}

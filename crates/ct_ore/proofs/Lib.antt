@@ -23,3 +23,6 @@ pub mod PairSums
 pub mod Multiples
 pub mod Expansion
 pub mod Runs
+pub mod OneTerm
+pub mod WholeDivisors
+pub mod WholeMultiples

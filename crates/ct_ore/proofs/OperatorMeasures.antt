@@ -61,11 +61,11 @@ terms-term_of m c some = by (has_none monomials int_group c.terms) refl
     by true e = absurd (some (none_of monomials int_group c e))
     by false e = ap (λ b. cond {A = List (Mono × Polynomial)} b [] ((m, c) ∷ [])) e
 
-length-row : (m : Mono) (es : List (Mono × ℤ)) → length (row_of m es) ≡ length es
+pub length-row : (m : Mono) (es : List (Mono × ℤ)) → length (row_of m es) ≡ length es
 length-row m [] = refl
 length-row m (e ∷ es) = ap (λ n. suc n) (length-row m es)
 
-size-row : (m : Mono) (es : List (Mono × ℤ)) → size_of (row_of m es) ≡ norm_of es
+pub size-row : (m : Mono) (es : List (Mono × ℤ)) → size_of (row_of m es) ≡ norm_of es
 size-row m [] = refl
 size-row m (e ∷ es) =
     sum_by-cons (λ (u : CoefficientTerm). nat_abs u.number) (record { symbols = m; names = e.0; number = e.1 }) (row_of m es)

@@ -3,6 +3,7 @@ pub mod Terms
 pub mod CoefficientTerms
 pub mod PairWeights
 pub mod Measures
+pub mod Wholes
 pub mod Lists
 pub mod PairTerms
 pub mod PairMeasures

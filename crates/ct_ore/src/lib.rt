@@ -20,6 +20,7 @@ mod sum;
 #[cfg(test)]
 mod tests;
 mod ways;
+mod wholes;
 
 pub use algebra::{Action, Algebra, NameInfo, Role};
 pub use answer::{Answer, Part};

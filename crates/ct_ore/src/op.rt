@@ -5,12 +5,12 @@ ghost use Rattle.ct_algebra.specs.Monomial.{unit};
 ghost use Rattle.ct_algebra.specs.Polynomial.{polys};
 ghost use Rattle.ct_algebra.specs.Operators.{no_operator, term_of};
 ghost use Rattle.ct_mono.specs.Checked.{Answers};
-ghost use Rattle.ct_mono.specs.Limits.{most_terms};
-ghost use Rattle.ct_ore.specs.Terms.{op_entries};
+ghost use Rattle.ct_mono.specs.Limits.{most_terms, largest_norm};
+ghost use Rattle.ct_ore.specs.Terms.{op_entries, operator_of_terms, IsOperator};
 ghost use Rattle.ct_ore.specs.CoefficientTerms.{sum_of_parts};
 ghost use Rattle.ct_ore.specs.Lists.{Fits, IsPartsOf};
 ghost use Rattle.ct_ore.specs.Naming.{actions_of};
-ghost use Rattle.ct_ore.specs.Measures.{term_count, checked_sum, checked_difference, checked_product, checked_combination};
+ghost use Rattle.ct_ore.specs.Measures.{term_count, term_norm, checked_sum, checked_difference, checked_product, checked_combination};
 
 use crate::algebra::Algebra;
 use crate::coefficient_term::CoefficientTerm;
@@ -117,10 +117,21 @@ impl Op {
     }
 
     // Each operator is within the limits.
-    fn within_limits(&self)
-        ensures { term_count self.now ≤ most_terms }
+    pub(crate) fn within_limits(&self)
+        ensures few { term_count self.now ≤ most_terms }
+        ensures small { term_norm self.now ≤ largest_norm }
     {
         let _ = &self.terms;
+    }
+
+    // The operator of terms whose products of symbols fall.
+    pub(crate) fn of_terms(terms: Vec<OpTerm>) -> Op
+        requires falling { IsOperator terms.items }
+        requires few { term_count (operator_of_terms terms.items) ≤ most_terms }
+        requires small { term_norm (operator_of_terms terms.items) ≤ largest_norm }
+        ensures { result ≡ operator_of_terms terms.items }
+    {
+        Op { terms }
     }
 
     // The terms of all coefficients.

@@ -222,3 +222,37 @@ fn products_overflow_by_the_count_of_pairs(rt: HostRuntime) -> Result<(), Fail> 
     assert!(rt; matches!(refused, Err(Fault::Overflow(Kind::Terms))));
     Ok(())
 }
+
+#[test]
+fn common_divisors_are_those_of_all_coefficients(rt: HostRuntime) -> Result<(), Fail> {
+    let algebra = shift_and_derivation(rt.alloc())?;
+    let twelve = Op::of_poly(rt.alloc(), Poly::constant(rt.alloc(), 12)?)?;
+    let n = name(rt.alloc(), 0)?.times_whole(rt.alloc(), &algebra, 30)?;
+    let shift = Op::symbol(rt.alloc(), 0)?;
+    let sum = twelve
+        .mul(rt.alloc(), &algebra, &shift)?
+        .sub(rt.alloc(), &n)?;
+    assert_eq!(rt; sum.common_divisor(1), 1);
+    assert_eq!(rt; sum.common_divisor(7), 1);
+    assert_eq!(rt; sum.common_divisor(8), 2);
+    assert_eq!(rt; sum.common_divisor(36), 6);
+    assert_eq!(rt; Op::zero(rt.alloc()).common_divisor(36), 36);
+    let sixth = sum.over_whole(rt.alloc(), 6)?;
+    assert!(rt; is_listed(&sixth, &[(1, 0, 0, 0, 2), (0, 0, 1, 0, -5)]));
+    Ok(())
+}
+
+#[test]
+fn multiples_overflow_by_the_norm(rt: HostRuntime) -> Result<(), Fail> {
+    let algebra = shift_and_derivation(rt.alloc())?;
+    let one = Op::of_poly(rt.alloc(), Poly::constant(rt.alloc(), 1)?)?;
+    let sum = Op::symbol(rt.alloc(), 0)?.add(rt.alloc(), &one)?;
+    let half = (LARGEST_NORM - 1) / 2;
+    let multiple = sum.times_whole(rt.alloc(), &algebra, half)?;
+    let number = half as i128;
+    assert!(rt; is_listed(&multiple, &[(1, 0, 0, 0, number), (0, 0, 0, 0, number)]));
+    let sum = Op::symbol(rt.alloc(), 0)?.add(rt.alloc(), &one)?;
+    let past = sum.times_whole(rt.alloc(), &algebra, half + 1);
+    assert!(rt; matches!(&past, Err(Fault::Overflow(Kind::Number))));
+    Ok(())
+}

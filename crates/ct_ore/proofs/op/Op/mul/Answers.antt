@@ -20,7 +20,7 @@ unfolding term_count coefficient_terms
 product_overflow-requires c =
     let its = subst Fits (sym c.as_slice.ensures.value) c.in_ok-its.ensures.fits in
     record {
-      few = subst (λ es. length (all_terms es) ≤ most_terms) (sym c.terms.ensures) c.within_limits.ensures;
+      few = subst (λ es. length (all_terms es) ≤ most_terms) (sym c.terms.ensures) c.within_limits.ensures.few;
       few_too = its.few;
       small = its.small;
     }

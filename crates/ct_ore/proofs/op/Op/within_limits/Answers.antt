@@ -1,7 +1,10 @@
 use Rattle.std.proofs.Common.{◌≤◌, subst}
-use Rattle.ct_mono.specs.Limits.{most_terms}
-use Rattle.ct_ore.specs.Measures.{term_count}
+use Rattle.ct_mono.specs.Limits.{most_terms, largest_norm}
+use Rattle.ct_ore.specs.Measures.{term_count, term_norm}
 use Rattle.ct_ore.proofs.op.Op.within_limits.Goals as goal
 
 pub returns : goal.returns
-returns c = subst (λ p. term_count p ≤ most_terms) c.self.view_is c.self.invariant.1
+returns c = record {
+  few = subst (λ p. term_count p ≤ most_terms) c.self.view_is c.self.invariant.1;
+  small = subst (λ p. term_norm p ≤ largest_norm) c.self.view_is c.self.invariant.2;
+}
