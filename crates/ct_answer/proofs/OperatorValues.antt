@@ -13,9 +13,11 @@ use Rattle.ct_algebra.specs.WholeNumbers.{int_group}
 use Rattle.ct_algebra.specs.Actions.{Action}
 use Rattle.ct_algebra.specs.Operators.{Operator, term_of, operator_of}
 use Rattle.ct_algebra.proofs.OperatorLawProofs as operator_laws
+use Rattle.ct_mono.specs.Checked.{Checked, ◌>>=◌}
 use Rattle.ct_mono.specs.Limits.{largest_degree, most_terms, largest_norm}
 use Rattle.ct_ore.specs.Measures.{row_of, all_terms, coefficient_terms, term_count, term_norm}
-use Rattle.ct_problem.specs.Value.{value_of}
+use Rattle.ct_problem.specs.ValueArithmetic.{Value, over_one}
+use Rattle.ct_problem.specs.Value.{value_of, fraction_of}
 use Rattle.ct_problem.specs.WellFormed.{Each}
 use Rattle.ct_answer.specs.declared.factors.Power.{Power}
 use Rattle.ct_answer.specs.Text.{names_in, symbols_in}
@@ -58,7 +60,7 @@ module _ (a : Name → Action) where
       let weighed : term_norm (term_of (all_of qs) c) ≡ norm_of (e ∷ f ∷ es) = term_norm-one (all_of qs) c known.some ∙ norm_is c (e ∷ f ∷ es) same in
       let few : length (e ∷ f ∷ es) ≤ most_terms = subst (λ (n : ℕ). n ≤ most_terms) (count_is c (e ∷ f ∷ es) same) known.few in
       let small : norm_of (e ∷ f ∷ es) ≤ largest_norm = subst (λ (n : ℕ). n ≤ largest_norm) (norm_is c (e ∷ f ∷ es) same) known.small in
-      let value = subst (λ (ds : List (Mono × ℤ)). 0 < length ds → Each IsSmallEntry ds → length ds ≤ most_terms → norm_of ds ≤ largest_norm → value_of a (sum_expression (entry_expressions ds)) ≡ Ok (term_of unit c)) same (written_value a c) some entries few small in
+      let value = subst (λ (ds : List (Mono × ℤ)). 0 < length ds → Each IsSmallEntry ds → length ds ≤ most_terms → norm_of ds ≤ largest_norm → fraction_of a (sum_expression (entry_expressions ds)) ≡ Ok (over_one (term_of unit c))) same (written_value a c) some entries few small in
       record {
         value = term_of (all_of qs) c;
         evaluates = before_symbols_value a (sum_expression (entry_expressions (e ∷ f ∷ es))) c qs value known symbols low;
@@ -102,11 +104,11 @@ module _ (a : Name → Action) where
   entries_add (e ∷ es) known = (entries_make e es known.0 (entries_add es known.1)).adds
 
   list_value : (es : List (Mono × Polynomial)) → Each IsSmallOperatorEntry es → length (all_terms es) ≤ most_terms → sum_by size (all_terms es) ≤ largest_norm
-      → value_of a (sum_expression (operator_expressions es)) ≡ Ok (operator_of es)
-  list_value [] known few small = zero_value a ∙ ap Ok (sym operator_laws.sums_of_terms.of_none)
+      → fraction_of a (sum_expression (operator_expressions es)) ≡ Ok (over_one (operator_of es))
+  list_value [] known few small = zero_value a ∙ ap (λ (x : Operator). Ok (over_one x)) (sym operator_laws.sums_of_terms.of_none)
   list_value (e ∷ es) known few small =
       sum_value a (operator_expressions (e ∷ es)) (operator_of (e ∷ es)) (length (all_terms (e ∷ es))) (sum_by size (all_terms (e ∷ es))) (entries_make e es known.0 (entries_add es known.1)).begins few small
 
   pub operator_value : (p : Operator) → Each IsSmallOperatorEntry p.terms → term_count p ≤ most_terms → term_norm p ≤ largest_norm → value_of a (operator_expression p) ≡ Ok p
-  unfolding term_count term_norm coefficient_terms
-  operator_value p known few small = list_value p.terms known few small ∙ ap Ok (operator_laws.sums_of_terms.of_its_own p)
+  unfolding term_count term_norm coefficient_terms value_of
+  operator_value p known few small = ap (λ (c : Checked Value). c >>= (λ v. Ok v.operator)) (list_value p.terms known few small) ∙ ap Ok (operator_laws.sums_of_terms.of_its_own p)

@@ -16,7 +16,8 @@ use Rattle.ct_algebra.proofs.PolynomialLawProofs as polynomial_laws
 use Rattle.ct_mono.specs.Limits.{largest_degree, most_terms, largest_norm}
 use Rattle.ct_poly.proofs.DivisionSteps.{term-neg}
 use Rattle.ct_poly.proofs.TermLists.{rebuilt}
-use Rattle.ct_problem.specs.Value.{value_of}
+use Rattle.ct_problem.specs.ValueArithmetic.{over_one}
+use Rattle.ct_problem.specs.Value.{fraction_of}
 use Rattle.ct_problem.specs.WellFormed.{Each}
 use Rattle.ct_answer.specs.declared.factors.Power.{Power}
 use Rattle.ct_answer.specs.Text.{names_in}
@@ -50,11 +51,11 @@ negative-term m n k =
 module _ (a : Name → Action) where
   -- one number with powers of names and symbols
   module _ (n : Mono) (qs : List Power) (symbols : Each (λ p. p.is_symbol ≡ true) qs) (low : total n ≤ largest_degree) (low_order : total (all_of qs) ≤ largest_degree) where
-    evaluated : (k : ℕ) → suc k ≤ largest_norm → value_of a (term_expression (suc k) (names_in n ++ qs)) ≡ Ok (term_of (all_of qs) (term n (pos (suc k))))
+    evaluated : (k : ℕ) → suc k ≤ largest_norm → fraction_of a (term_expression (suc k) (names_in n ++ qs)) ≡ Ok (over_one (term_of (all_of qs) (term n (pos (suc k)))))
     evaluated k small =
         let same = all_of-powers false n in
         term_value a (suc k) (names_in n) qs (omega arith) small (all_are false n 6) symbols (omega (arith, ap total same, low)) low_order
-        ∙ ap (λ (m : Mono). Ok (term_of (all_of qs) (term m (pos (suc k))))) same
+        ∙ ap (λ (m : Mono). Ok (over_one (term_of (all_of qs) (term m (pos (suc k)))))) same
 
     pub signed_has : (x : ℤ) → T (cond (int_is_zero x) false true) → nat_abs x ≤ largest_norm → TermHas a (signed_expression x (names_in n ++ qs)) (term_of (all_of qs) (term n x)) 1 (nat_abs x)
     signed_has (pos zero) some small = absurd some
@@ -127,16 +128,16 @@ module _ (a : Name → Action) where
 
   -- a sum that is written for itself
   pub written_value : (c : Polynomial) → 0 < length c.terms → Each IsSmallEntry c.terms → length c.terms ≤ most_terms → norm_of c.terms ≤ largest_norm
-      → value_of a (sum_expression (entry_expressions c.terms)) ≡ Ok (term_of unit c)
+      → fraction_of a (sum_expression (entry_expressions c.terms)) ≡ Ok (over_one (term_of unit c))
   written_value c some known few small = sum_value a (entry_expressions c.terms) (term_of unit c) (length c.terms) (norm_of c.terms) (Makes-polynomial c some known).begins few small
 
   -- also of zero
   pub polynomial_written : (c : Polynomial) → Each IsSmallEntry c.terms → length c.terms ≤ most_terms → norm_of c.terms ≤ largest_norm
-      → value_of a (sum_expression (entry_expressions c.terms)) ≡ Ok (term_of unit c)
+      → fraction_of a (sum_expression (entry_expressions c.terms)) ≡ Ok (over_one (term_of unit c))
   polynomial_written c known few small =
-      sum_value_of c.terms known few small ∙ ap (λ (d : Polynomial). Ok (term_of unit d)) (rebuilt c)
+      sum_value_of c.terms known few small ∙ ap (λ (d : Polynomial). Ok (over_one (term_of unit d))) (rebuilt c)
     where
-      sum_value_of : (es : List (Mono × ℤ)) → Each IsSmallEntry es → length es ≤ most_terms → norm_of es ≤ largest_norm → value_of a (sum_expression (entry_expressions es)) ≡ Ok (term_of unit (poly_of es))
-      sum_value_of [] known few small = zero_value a ∙ ap Ok (sym (ap (term_of unit) polynomial_laws.sums_of_terms.of_none ∙ term_of-zero unit))
+      sum_value_of : (es : List (Mono × ℤ)) → Each IsSmallEntry es → length es ≤ most_terms → norm_of es ≤ largest_norm → fraction_of a (sum_expression (entry_expressions es)) ≡ Ok (over_one (term_of unit (poly_of es)))
+      sum_value_of [] known few small = zero_value a ∙ ap (λ (x : Operator). Ok (over_one x)) (sym (ap (term_of unit) polynomial_laws.sums_of_terms.of_none ∙ term_of-zero unit))
       sum_value_of (e ∷ es) known few small =
           sum_value a (entry_expressions (e ∷ es)) (term_of unit (poly_of (e ∷ es))) (length (e ∷ es)) (norm_of (e ∷ es)) (entries_make e es known.0 (Adds-entries es known.1)).begins few small

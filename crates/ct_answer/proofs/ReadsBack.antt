@@ -8,7 +8,8 @@ use Rattle.ct_algebra.specs.Operators.{Operator, polynomial_at, term_of}
 use Rattle.ct_algebra.proofs.OperatorTerms.{at-term_of, pick-same}
 use Rattle.ct_mono.specs.Checked.{Checked, ◌>>=◌}
 use Rattle.ct_ore.specs.Naming.{Naming, actions_of}
-use Rattle.ct_problem.specs.Value.{checked_polynomial}
+use Rattle.ct_problem.specs.ValueArithmetic.{Value}
+use Rattle.ct_problem.specs.Value.{value_of, checked_polynomial}
 use Rattle.ct_answer.specs.Text.{polynomial_text, operator_text}
 use Rattle.ct_answer.specs.ReadBack.{PolynomialFits, PrintedPolynomialsAreRead, PrintedOperatorsAreRead}
 use Rattle.ct_answer.proofs.PrintedExpressions.{polynomial_expression, operator_expression}
@@ -22,9 +23,9 @@ coefficient_of_one : (p : Polynomial) → polynomial_at (term_of unit p) unit �
 coefficient_of_one p = at-term_of unit unit p ∙ pick-same unit unit p refl
 
 polynomial_value : (a : Name → Action) (names : List Naming) (p : Polynomial) → PolynomialFits names p → checked_polynomial a (polynomial_expression p) ≡ Ok p
-unfolding count norm
+unfolding count norm value_of
 polynomial_value a names p fits =
-    ap (λ (c : Checked Operator). c >>= (λ x. Ok (polynomial_at x unit))) (polynomial_written a p (small_entries p fits.low fits.small) fits.few fits.small)
+    ap (λ (c : Checked Value). (c >>= (λ v. let r : Checked Operator = Ok v.operator in r)) >>= (λ x. Ok (polynomial_at x unit))) (polynomial_written a p (small_entries p fits.low fits.small) fits.few fits.small)
     ∙ ap Ok (coefficient_of_one p)
 
 pub polynomials_are_read : PrintedPolynomialsAreRead

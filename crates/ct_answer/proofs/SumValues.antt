@@ -23,8 +23,10 @@ use Rattle.ct_ore.proofs.WrittenOperators.{terms-no_operator}
 use Rattle.ct_problem.specs.declared.expr.Expr.TheVariants as e
 use Rattle.ct_problem.specs.Grammar.{Term, summand}
 use Rattle.ct_problem.specs.Grammar as grammar
-use Rattle.ct_problem.specs.Value.{value_of, signed, Signed, sum_from, joined}
-use Rattle.ct_problem.proofs.Values.{value_of-Whole, value_of-Sum, value_of_term-out}
+use Rattle.ct_problem.specs.ValueArithmetic.{Value, over_one}
+use Rattle.ct_problem.specs.Value.{fraction_of, signed, Signed, sum_from, joined}
+use Rattle.ct_problem.proofs.OverOne.{negated_over_one, plus_over_one, minus_over_one}
+use Rattle.ct_problem.proofs.Values.{fraction_of-Whole, fraction_of-Sum, fraction_of_term-out}
 use Rattle.ct_answer.proofs.SumMeasures.{term_count-sum, term_norm-sum}
 use Rattle.ct_answer.proofs.PrintedExpressions.{sum_expression}
 
@@ -67,7 +69,7 @@ with_sign false x = x
 module _ (a : Name → Action) where
   pub record TermHas (t : Term) (w : Operator) (k s : ℕ) : Type 0 where
     pub value : Operator
-    pub evaluates : value_of a t.1 ≡ Ok value
+    pub evaluates : fraction_of a t.1 ≡ Ok (over_one value)
     pub sign : with_sign t.0 value ≡ w
     pub few : term_count value ≤ k
     pub small : term_norm value ≤ s
@@ -76,10 +78,10 @@ module _ (a : Name → Action) where
 
   -- the terms with their values
   abbrev pub pairs : List Term → List Signed
-  pairs ts = map (λ (t : Term). (t.0, value_of a t.1)) ts
+  pairs ts = map (λ (t : Term). (t.0, fraction_of a t.1)) ts
 
   pub record AddsTo (ts : List Term) (w : Operator) (k s : ℕ) (so_far : Operator) (rest : List Signed) : Type 0 where
-    pub goes_on : sum_from (Some so_far) (pairs ts ++ rest) ≡ sum_from (Some (sum_of_operators so_far w)) rest
+    pub goes_on : sum_from a (Some (over_one so_far)) (pairs ts ++ rest) ≡ sum_from a (Some (over_one (sum_of_operators so_far w))) rest
     pub few : term_count (sum_of_operators so_far w) ≤ term_count so_far + k
     pub small : term_norm (sum_of_operators so_far w) ≤ term_norm so_far + s
 
@@ -87,7 +89,7 @@ module _ (a : Name → Action) where
   Adds ts w k s = (so_far : Operator) (rest : List Signed) → term_count so_far + k ≤ most_terms → term_norm so_far + s ≤ largest_norm → AddsTo ts w k s so_far rest
 
   pub record BeginsWith (ts : List Term) (w : Operator) (k s : ℕ) (rest : List Signed) : Type 0 where
-    pub goes_on : sum_from None (pairs ts ++ rest) ≡ sum_from (Some w) rest
+    pub goes_on : sum_from a None (pairs ts ++ rest) ≡ sum_from a (Some (over_one w)) rest
     pub few : term_count w ≤ k
     pub small : term_norm w ≤ s
 
@@ -101,21 +103,23 @@ module _ (a : Name → Action) where
   -- ---- one term
 
   joined_value : (so_far : Operator) (negative : Bool) (x w : Operator) → with_sign negative x ≡ w → term_count so_far + term_count x ≤ most_terms → term_norm so_far + term_norm x ≤ largest_norm
-      → joined (Some so_far) negative x ≡ Ok (sum_of_operators so_far w)
-  joined_value so_far true x w sign few small = difference_fits so_far x few small ∙ ap (λ (y : Operator). Ok (sum_of_operators so_far y)) sign
-  joined_value so_far false x w sign few small = sum_fits so_far x few small ∙ ap (λ (y : Operator). Ok (sum_of_operators so_far y)) sign
+      → joined a (Some (over_one so_far)) negative (over_one x) ≡ Ok (over_one (sum_of_operators so_far w))
+  joined_value so_far true x w sign few small =
+      minus_over_one a so_far x _ (omega (arith, small)) (omega (arith, small)) (difference_fits so_far x few small) ∙ ap (λ (y : Operator). Ok (over_one (sum_of_operators so_far y))) sign
+  joined_value so_far false x w sign few small =
+      plus_over_one a so_far x _ (omega (arith, small)) (omega (arith, small)) (sum_fits so_far x few small) ∙ ap (λ (y : Operator). Ok (over_one (sum_of_operators so_far y))) sign
 
-  first_value : (negative : Bool) (x w : Operator) → with_sign negative x ≡ w → term_count x ≤ most_terms → term_norm x ≤ largest_norm → joined None negative x ≡ Ok w
+  first_value : (negative : Bool) (x w : Operator) → with_sign negative x ≡ w → term_count x ≤ most_terms → term_norm x ≤ largest_norm → joined a None negative (over_one x) ≡ Ok (over_one w)
   first_value true x w sign few small =
-      difference_fits no_operator x (omega (arith, term_count-none, few)) (omega (arith, term_norm-none, small)) ∙ ap Ok (none_sum (negative x) ∙ sign)
-  first_value false x w sign few small = ap Ok sign
+      negated_over_one x _ (difference_fits no_operator x (omega (arith, term_count-none, few)) (omega (arith, term_norm-none, small))) ∙ ap (λ (y : Operator). Ok (over_one y)) (none_sum (negative x) ∙ sign)
+  first_value false x w sign few small = ap (λ (y : Operator). Ok (over_one y)) sign
 
   Adds-one : (t : Term) (w : Operator) (k s : ℕ) → TermHas t w k s → Adds (t ∷ []) w k s
   unfolding sum_from
   Adds-one t w k s known so_far rest few small = record {
     goes_on =
-        ap (λ (c : Checked Operator). c >>= (λ x. joined (Some so_far) t.0 x >>= (λ more. sum_from (Some more) rest))) known.evaluates
-        ∙ ap (λ (c : Checked Operator). c >>= (λ more. sum_from (Some more) rest)) (joined_value so_far t.0 known.value w known.sign (omega (arith, few, known.few)) (omega (arith, small, known.small)));
+        ap (λ (c : Checked Value). c >>= (λ x. joined a (Some (over_one so_far)) t.0 x >>= (λ more. sum_from a (Some more) rest))) known.evaluates
+        ∙ ap (λ (c : Checked Value). c >>= (λ more. sum_from a (Some more) rest)) (joined_value so_far t.0 known.value w known.sign (omega (arith, few, known.few)) (omega (arith, small, known.small)));
     few = omega (arith, term_count-sum so_far w, known.few_signed);
     small = omega (arith, term_norm-sum so_far w, known.small_signed);
   }
@@ -124,8 +128,8 @@ module _ (a : Name → Action) where
   unfolding sum_from
   Begins-one t w k s known rest few small = record {
     goes_on =
-        ap (λ (c : Checked Operator). c >>= (λ x. joined None t.0 x >>= (λ more. sum_from (Some more) rest))) known.evaluates
-        ∙ ap (λ (c : Checked Operator). c >>= (λ more. sum_from (Some more) rest)) (first_value t.0 known.value w known.sign (omega (arith, few, known.few)) (omega (arith, small, known.small)));
+        ap (λ (c : Checked Value). c >>= (λ x. joined a None t.0 x >>= (λ more. sum_from a (Some more) rest))) known.evaluates
+        ∙ ap (λ (c : Checked Value). c >>= (λ more. sum_from a (Some more) rest)) (first_value t.0 known.value w known.sign (omega (arith, few, known.few)) (omega (arith, small, known.small)));
     few = known.few_signed;
     small = known.small_signed;
   }
@@ -139,14 +143,14 @@ module _ (a : Name → Action) where
   Adds-none so_far rest few small =
       let same = group.sum_with_none so_far in
       record {
-        goes_on = ap (λ (x : Operator). sum_from (Some x) rest) (sym same);
+        goes_on = ap (λ (x : Operator). sum_from a (Some (over_one x)) rest) (sym same);
         few = omega (arith, ap term_count same);
         small = omega (arith, ap term_norm same);
       }
 
   pairs-append : (ts us : List Term) (rest : List Signed) → pairs (ts ++ us) ++ rest ≡ pairs ts ++ (pairs us ++ rest)
   pairs-append [] us rest = refl
-  pairs-append (t ∷ ts) us rest = ap (λ (ps : List Signed). (t.0, value_of a t.1) ∷ ps) (pairs-append ts us rest)
+  pairs-append (t ∷ ts) us rest = ap (λ (ps : List Signed). (t.0, fraction_of a t.1) ∷ ps) (pairs-append ts us rest)
 
   pub Adds-append : (ts us : List Term) (w v : Operator) (k s l r : ℕ) → Adds ts w k s → Adds us v l r → Adds (ts ++ us) (sum_of_operators w v) (k + l) (s + r)
   Adds-append ts us w v k s l r first second so_far rest few small =
@@ -154,7 +158,7 @@ module _ (a : Name → Action) where
       let two = second (sum_of_operators so_far w) rest (omega (arith, few, one.few)) (omega (arith, small, one.small)) in
       let same = group.sum_is_associative so_far w v in
       record {
-        goes_on = ap (sum_from (Some so_far)) (pairs-append ts us rest) ∙ one.goes_on ∙ two.goes_on ∙ ap (λ (x : Operator). sum_from (Some x) rest) same;
+        goes_on = ap (sum_from a (Some (over_one so_far))) (pairs-append ts us rest) ∙ one.goes_on ∙ two.goes_on ∙ ap (λ (x : Operator). sum_from a (Some (over_one x)) rest) same;
         few = omega (arith, one.few, two.few, ap term_count same);
         small = omega (arith, one.small, two.small, ap term_norm same);
       }
@@ -164,7 +168,7 @@ module _ (a : Name → Action) where
       let one = first (pairs us ++ rest) (omega (arith, few)) (omega (arith, small)) in
       let two = second w rest (omega (arith, few, one.few)) (omega (arith, small, one.small)) in
       record {
-        goes_on = ap (sum_from None) (pairs-append ts us rest) ∙ one.goes_on ∙ two.goes_on;
+        goes_on = ap (sum_from a None) (pairs-append ts us rest) ∙ one.goes_on ∙ two.goes_on;
         few = omega (arith, one.few, two.few);
         small = omega (arith, one.small, two.small);
       }
@@ -179,31 +183,31 @@ module _ (a : Name → Action) where
 
   signed-summands : (ts : List Term) → signed a (map (λ (t : Term). summand t.0 t.1) ts) ≡ pairs ts
   signed-summands [] = refl
-  signed-summands (t ∷ ts) = ap₂ (λ (p : Signed) (ps : List Signed). p ∷ ps) (value_of_term-out a (summand t.0 t.1)) (signed-summands ts)
+  signed-summands (t ∷ ts) = ap₂ (λ (p : Signed) (ps : List Signed). p ∷ ps) (fraction_of_term-out a (summand t.0 t.1)) (signed-summands ts)
 
-  alone : (c : Checked Operator) → c ≡ sum_from None ((false, c) ∷ [])
+  alone : (c : Checked Value) → c ≡ sum_from a None ((false, c) ∷ [])
   unfolding sum_from
   alone (Ok x) = refl
   alone (Err k) = refl
 
-  value-sum_of : (t : Term) (ts : List Term) → value_of a (grammar.sum_of t.0 t.1 ts) ≡ sum_from None (pairs (t ∷ ts))
+  value-sum_of : (t : Term) (ts : List Term) → fraction_of a (grammar.sum_of t.0 t.1 ts) ≡ sum_from a None (pairs (t ∷ ts))
   value-sum_of t ts = by t.0 ts
     where
-      whole : (negative : Bool) (more : List Term) → value_of a (e.Sum (summand negative t.1 ∷ map (λ (u : Term). summand u.0 u.1) more)) ≡ sum_from None ((negative, value_of a t.1) ∷ pairs more)
-      whole negative more = value_of-Sum a _ ∙ ap (sum_from None) (signed-summands ((negative, t.1) ∷ more))
+      whole : (negative : Bool) (more : List Term) → fraction_of a (e.Sum (summand negative t.1 ∷ map (λ (u : Term). summand u.0 u.1) more)) ≡ sum_from a None ((negative, fraction_of a t.1) ∷ pairs more)
+      whole negative more = fraction_of-Sum a _ ∙ ap (sum_from a None) (signed-summands ((negative, t.1) ∷ more))
 
-      by : (negative : Bool) (more : List Term) → value_of a (grammar.sum_of negative t.1 more) ≡ sum_from None ((negative, value_of a t.1) ∷ pairs more)
+      by : (negative : Bool) (more : List Term) → fraction_of a (grammar.sum_of negative t.1 more) ≡ sum_from a None ((negative, fraction_of a t.1) ∷ pairs more)
       by true more = whole true more
-      by false [] = alone (value_of a t.1)
+      by false [] = alone (fraction_of a t.1)
       by false (u ∷ more) = whole false (u ∷ more)
 
-  pub zero_value : value_of a (e.Whole (pos 0)) ≡ Ok no_operator
+  pub zero_value : fraction_of a (e.Whole (pos 0)) ≡ Ok (over_one no_operator)
   zero_value =
-      value_of-Whole a (pos 0)
-      ∙ ap (λ (c : Polynomial). Ok (term_of unit c)) (number_is (pos 0) ∙ hom_zero {G = int_group} {H = polys.group} (record { sums = term-sum unit }))
-      ∙ ap Ok (term_of-zero unit)
+      fraction_of-Whole a (pos 0)
+      ∙ ap (λ (c : Polynomial). Ok (over_one (term_of unit c))) (number_is (pos 0) ∙ hom_zero {G = int_group} {H = polys.group} (record { sums = term-sum unit }))
+      ∙ ap (λ (x : Operator). Ok (over_one x)) (term_of-zero unit)
 
-  pub sum_value : (ts : List Term) (w : Operator) (k s : ℕ) → Begins ts w k s → k ≤ most_terms → s ≤ largest_norm → value_of a (sum_expression ts) ≡ Ok w
+  pub sum_value : (ts : List Term) (w : Operator) (k s : ℕ) → Begins ts w k s → k ≤ most_terms → s ≤ largest_norm → fraction_of a (sum_expression ts) ≡ Ok (over_one w)
   unfolding sum_from
   sum_value [] w k s begins few small = zero_value ∙ (begins [] few small).goes_on
-  sum_value (t ∷ ts) w k s begins few small = value-sum_of t ts ∙ ap (sum_from None) (sym (append-nil (pairs (t ∷ ts)))) ∙ (begins [] few small).goes_on
+  sum_value (t ∷ ts) w k s begins few small = value-sum_of t ts ∙ ap (sum_from a None) (sym (append-nil (pairs (t ∷ ts)))) ∙ (begins [] few small).goes_on

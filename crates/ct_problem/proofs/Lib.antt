@@ -1,6 +1,9 @@
 pub mod Places
 pub mod Turns
 pub mod Plainness
+pub mod ValueArithmetic
+pub mod ValueSteps
+pub mod OverOne
 pub mod Values
 pub mod Answering
 pub mod Steps

@@ -15,6 +15,7 @@ pub mod Declarations
 pub mod ProblemLines
 pub mod ReportLines
 pub mod FirstForm
+pub mod ValueArithmetic
 pub mod Value
 pub mod WellFormed
 pub mod ValueLaws

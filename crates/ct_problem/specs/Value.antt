@@ -1,11 +1,12 @@
--- The values of expressions: operators, computed from left to right with exact overflow.
---     value_of a e         the value of e under the actions a
+-- The values of expressions: operators over whole numbers, computed from left to right with exact overflow.
+--     fraction_of a e      the value of e under the actions a, an operator over a whole number
+--     value_of a e         the operator of that value, which e stands for
 --     checked_polynomial a e   the same, as a polynomial: the coefficient of 1
 --     has_no_symbol e      names and numbers alone
---     is_evaluable e       numbers are from 0 to the greatest coefficient, and names and symbols are below six
+--     is_evaluable e       numbers are from 0 to the greatest coefficient, and a divisor from 1; names and symbols are below six
 -- A sum is folded from its first term, which is negated where a `-` stands before it, and a product from its first factor.
 -- A power is folded from 1: its base is evaluated once, also where the exponent is 0. All products are left products.
-use Rattle.std.specs.Prelude.{ℕ, zero, suc, ℤ, pos, negsuc, Bool, true, false, ◌&&◌, nat_le, nat_lt, List, [], ◌∷◌, map, Option, Some, None, Ok}
+use Rattle.std.specs.Prelude.{ℕ, zero, suc, ℤ, pos, negsuc, unsigned_abs, Bool, true, false, ◌&&◌, nat_le, nat_lt, List, [], ◌∷◌, map, Option, Some, None, Ok}
 use Rattle.ct_algebra.specs.Names.{Name, name_with, symbol}
 use Rattle.ct_algebra.specs.Monomial.{unit}
 use Rattle.ct_algebra.specs.Polynomial.{Polynomial, polys}
@@ -14,7 +15,7 @@ use Rattle.ct_algebra.specs.Actions.{Action}
 use Rattle.ct_algebra.specs.Operators.{Operator, no_operator, polynomial_at, term_of}
 use Rattle.ct_mono.specs.Limits.{largest_norm}
 use Rattle.ct_mono.specs.Checked.{Checked, ◌>>=◌}
-use Rattle.ct_ore.specs.Measures.{checked_sum, checked_difference, checked_product}
+use Rattle.ct_problem.specs.ValueArithmetic.{Value, over_one, lowest, negated, checked_plus, checked_minus, checked_times}
 use Rattle.ct_problem.specs.declared.expr.Expr.{Expr}
 use Rattle.ct_problem.specs.declared.expr.Summand.{Summand}
 use Rattle.ct_problem.specs.declared.expr.Expr.TheFolds.{fold-Expr, fold-Summand}
@@ -23,83 +24,96 @@ use Rattle.ct_problem.specs.declared.expr.Expr.TheOpen.{Expr-F, Summand-F}
 abbrev pub operator_of_polynomial : Polynomial → Operator
 operator_of_polynomial p = term_of unit p
 
--- one as an operator
+-- one as an operator, and as a value
 abbrev pub one_operator : Operator
 one_operator = operator_of_polynomial (number (pos 1))
 
+abbrev pub one_value : Value
+one_value = over_one one_operator
+
+-- a quotient of whole numbers
+abbrev pub ratio : ℤ → ℤ → Value
+ratio n d = lowest (operator_of_polynomial (number n)) (unsigned_abs d)
+
 -- a term of a sum: whether a `-` stands before it, and its value
 abbrev pub Signed : Type 0
-Signed = Bool × Checked Operator
+Signed = Bool × Checked Value
 
--- one more term, after the sum of those before it
-abbrev pub joined : Option Operator → Bool → Operator → Checked Operator
-joined None true x = checked_difference no_operator x
-joined None false x = Ok x
-joined (Some so_far) true x = checked_difference so_far x
-joined (Some so_far) false x = checked_sum so_far x
-
-abbrev pub or_else : Operator → Option Operator → Operator
+abbrev pub or_else : Value → Option Value → Value
 or_else other None = other
 or_else other (Some x) = x
 
-unfoldable pub sum_from : Option Operator → List Signed → Checked Operator
-sum_from so_far [] = Ok (or_else no_operator so_far)
-sum_from so_far (t ∷ ts) = do
-  x ← t.1
-  more ← joined so_far t.0 x
-  sum_from (Some more) ts
-
-abbrev pub sum_of : List Signed → Checked Operator
-sum_of ts = sum_from None ts
-
 module _ (a : Name → Action) where
-  -- one more factor, after the product of those before it
-  abbrev pub multiplied : Option Operator → Operator → Checked Operator
-  multiplied None x = Ok x
-  multiplied (Some so_far) x = checked_product a so_far x
+  -- one more term, after the sum of those before it
+  abbrev pub joined : Option Value → Bool → Value → Checked Value
+  joined None true x = negated x
+  joined None false x = Ok x
+  joined (Some so_far) true x = checked_minus a so_far x
+  joined (Some so_far) false x = checked_plus a so_far x
 
-  unfoldable pub product_from : Option Operator → List (Checked Operator) → Checked Operator
-  product_from so_far [] = Ok (or_else one_operator so_far)
+  unfoldable pub sum_from : Option Value → List Signed → Checked Value
+  sum_from so_far [] = Ok (or_else (over_one no_operator) so_far)
+  sum_from so_far (t ∷ ts) = do
+    x ← t.1
+    more ← joined so_far t.0 x
+    sum_from (Some more) ts
+
+  abbrev pub sum_of : List Signed → Checked Value
+  sum_of ts = sum_from None ts
+
+  -- one more factor, after the product of those before it
+  abbrev pub multiplied : Option Value → Value → Checked Value
+  multiplied None x = Ok x
+  multiplied (Some so_far) x = checked_times a so_far x
+
+  unfoldable pub product_from : Option Value → List (Checked Value) → Checked Value
+  product_from so_far [] = Ok (or_else one_value so_far)
   product_from so_far (f ∷ fs) = do
     x ← f
     more ← multiplied so_far x
     product_from (Some more) fs
 
-  abbrev pub product_of : List (Checked Operator) → Checked Operator
+  abbrev pub product_of : List (Checked Value) → Checked Value
   product_of fs = product_from None fs
 
   -- so many more factors of a power
-  unfoldable pub power_from : Operator → ℕ → Operator → Checked Operator
+  unfoldable pub power_from : Value → ℕ → Value → Checked Value
   power_from so_far zero base = Ok so_far
   power_from so_far (suc n) base = do
-    more ← checked_product a so_far base
+    more ← checked_times a so_far base
     power_from more n base
 
-  unfoldable pub value_step : Expr-F (Checked Operator) Signed → Checked Operator
-  value_step (Expr-F.Whole n) = Ok (operator_of_polynomial (number n))
-  value_step (Expr-F.Name i) = Ok (operator_of_polynomial (name (name_with i)))
-  value_step (Expr-F.Symbol i) = Ok (term_of (symbol (name_with i)) polys.one)
+  unfoldable pub value_step : Expr-F (Checked Value) Signed → Checked Value
+  value_step (Expr-F.Whole n) = Ok (over_one (operator_of_polynomial (number n)))
+  value_step (Expr-F.Ratio n d) = Ok (ratio n d)
+  value_step (Expr-F.Name i) = Ok (over_one (operator_of_polynomial (name (name_with i))))
+  value_step (Expr-F.Symbol i) = Ok (over_one (term_of (symbol (name_with i)) polys.one))
   value_step (Expr-F.Sum terms) = sum_of terms
   value_step (Expr-F.Product factors) = product_of factors
   value_step (Expr-F.Power base n) = do
     x ← base
-    power_from one_operator n x
+    power_from one_value n x
 
-  abbrev pub signed_step : Summand-F (Checked Operator) Signed → Signed
+  abbrev pub signed_step : Summand-F (Checked Value) Signed → Signed
   signed_step s = (s.negative, s.expr)
 
-  unfoldable pub value_of : Expr → Checked Operator
-  value_of = fold-Expr (Checked Operator) Signed value_step signed_step
+  unfoldable pub fraction_of : Expr → Checked Value
+  fraction_of = fold-Expr (Checked Value) Signed value_step signed_step
 
   -- a term's sign and value
-  unfoldable pub value_of_term : Summand → Signed
-  value_of_term = fold-Summand (Checked Operator) Signed value_step signed_step
+  unfoldable pub fraction_of_term : Summand → Signed
+  fraction_of_term = fold-Summand (Checked Value) Signed value_step signed_step
 
-  abbrev pub values : List Expr → List (Checked Operator)
-  values factors = map value_of factors
+  abbrev pub fractions : List Expr → List (Checked Value)
+  fractions factors = map fraction_of factors
 
   abbrev pub signed : List Summand → List Signed
-  signed terms = map value_of_term terms
+  signed terms = map fraction_of_term terms
+
+  unfoldable pub value_of : Expr → Checked Operator
+  value_of e = do
+    v ← fraction_of e
+    Ok v.operator
 
   abbrev pub checked_polynomial : Expr → Checked Polynomial
   checked_polynomial e = do
@@ -113,12 +127,21 @@ abbrev pub is_coefficient : ℤ → Bool
 is_coefficient (pos n) = nat_le n largest_norm
 is_coefficient (negsuc n) = false
 
+-- from 1 to the greatest coefficient
+abbrev pub is_divisor : ℤ → Bool
+is_divisor (pos n) = nat_lt 0 n && nat_le n largest_norm
+is_divisor (negsuc n) = false
+
+abbrev pub is_ratio : ℤ → ℤ → Bool
+is_ratio n d = is_coefficient n && is_divisor d
+
 abbrev pub all_true : List Bool → Bool
 all_true [] = true
 all_true (b ∷ bs) = b && all_true bs
 
 unfoldable pub evaluable_step : Expr-F Bool Bool → Bool
 evaluable_step (Expr-F.Whole n) = is_coefficient n
+evaluable_step (Expr-F.Ratio n d) = is_ratio n d
 evaluable_step (Expr-F.Name i) = nat_lt i 6
 evaluable_step (Expr-F.Symbol i) = nat_lt i 6
 evaluable_step (Expr-F.Sum terms) = all_true terms
@@ -136,6 +159,7 @@ is_evaluable_term = fold-Summand Bool Bool evaluable_step term_step
 
 unfoldable pub no_symbol_step : Expr-F Bool Bool → Bool
 no_symbol_step (Expr-F.Whole n) = true
+no_symbol_step (Expr-F.Ratio n d) = true
 no_symbol_step (Expr-F.Name i) = true
 no_symbol_step (Expr-F.Symbol i) = false
 no_symbol_step (Expr-F.Sum terms) = all_true terms

@@ -2,12 +2,13 @@
 
 use sqlite_items::{Boxed, Items};
 
-/// An expression. Names and symbols are given by the number of the declared name. Parentheses leave no
-/// mark of their own.
+/// An expression. Names and symbols are given by the number of the declared name. A `Ratio` is a quotient of
+/// whole numbers, as it is written. Parentheses leave no mark of their own.
 #[cycle(expr)]
 #[derive(Drop)]
 pub enum Expr {
     Whole(i128),
+    Ratio(i128, i128),
     Name(u8),
     Symbol(u8),
     Sum(Items<Summand>),

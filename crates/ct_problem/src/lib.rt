@@ -20,6 +20,7 @@ mod polynomial;
 mod reading;
 #[cfg(test)]
 mod tests;
+mod value;
 
 pub use evaluation::evaluate;
 pub use expr::{Expr, Summand};

@@ -6,6 +6,8 @@ use ct_poly::Poly;
 use std::alloc::{AllocError, Global};
 use std::test::Fail;
 
+mod ratios;
+
 const NAMES: &str = "mgfun problem 1\nfree n shift\nsum k\n";
 
 const SUPPORT: &str = "order 1..1\ndegree 0..0\nend\n";

@@ -1,9 +1,10 @@
-use Rattle.std.proofs.Common.{rules, ◌∙◌, ap, sym, refl, IsTrue, subst, Ok}
+use Rattle.std.proofs.Common.{rules, ℤ, ◌∙◌, ap, ap₂, sym, refl, IsTrue, subst, Ok}
 use Rattle.ct_algebra.specs.Substitution.{number}
-use Rattle.ct_algebra.specs.Operators.{Operator, no_operator}
+use Rattle.ct_algebra.specs.Operators.{no_operator}
 use Rattle.ct_mono.specs.Checked.{Answers, Checked}
 use Rattle.ct_problem.specs.declared.expr.Expr.{the_lemmas}
 use Rattle.ct_ore.specs.Naming.{actions_of}
+use Rattle.ct_problem.specs.ValueArithmetic.{Value, over_one}
 use Rattle.ct_problem.specs.Value as spec
 use Rattle.ct_problem.specs.Value.{sum_from, product_from}
 use Rattle.ct_problem.proofs.Values as v
@@ -11,63 +12,71 @@ use Rattle.ct_problem.proofs.Answering.{passes_on}
 use Rattle.ct_problem.proofs.Turns.{next_item, one_item, no_item}
 use Rattle.ct_problem.proofs.evaluation.+evaluation.Goals as goal
 
-pub evaluate-whole-requires : goal.evaluate-whole-requires
-evaluate-whole-requires t c = v.whole_fits _ (subst (λ e. IsTrue (spec.is_evaluable e)) c.in-Whole.is c.requires)
+pub fraction-whole-requires : goal.fraction-whole-requires
+fraction-whole-requires t c = v.whole_fits _ (subst (λ e. IsTrue (spec.is_evaluable e)) c.in-Whole.is c.requires)
 
-pub evaluate-name-requires : goal.evaluate-name-requires
-evaluate-name-requires t c = v.below-Name _ (subst (λ e. IsTrue (spec.is_evaluable e)) c.in-Name.is c.requires)
+pub fraction-ratio-requires : goal.fraction-ratio-requires
+fraction-ratio-requires t c = v.ratio_fits _ _ (subst (λ e. IsTrue (spec.is_evaluable e)) c.in-Ratio.is c.requires)
 
-pub evaluate-symbol-requires : goal.evaluate-symbol-requires
-evaluate-symbol-requires t c = v.below-Symbol _ (subst (λ e. IsTrue (spec.is_evaluable e)) c.in-Symbol.is c.requires)
+pub fraction-name-requires : goal.fraction-name-requires
+fraction-name-requires t c = v.below-Name _ (subst (λ e. IsTrue (spec.is_evaluable e)) c.in-Name.is c.requires)
 
-pub evaluate-sum-requires : goal.evaluate-sum-requires
-evaluate-sum-requires t c = (search (rules, the_lemmas), rw c.as_slice.ensures (subst IsTrue (ap spec.is_evaluable c.in-Sum.is ∙ v.evaluable-Sum _) c.requires))
+pub fraction-symbol-requires : goal.fraction-symbol-requires
+fraction-symbol-requires t c = v.below-Symbol _ (subst (λ e. IsTrue (spec.is_evaluable e)) c.in-Symbol.is c.requires)
 
-pub evaluate-product-requires : goal.evaluate-product-requires
-evaluate-product-requires t c = (search (rules, the_lemmas), rw c.as_slice-in-Product.ensures (subst IsTrue (ap spec.is_evaluable c.in-Product.is ∙ v.evaluable-Product _) c.requires))
+pub fraction-sum-requires : goal.fraction-sum-requires
+fraction-sum-requires t c = (search (rules, the_lemmas), rw c.as_slice.ensures (subst IsTrue (ap spec.is_evaluable c.in-Sum.is ∙ v.evaluable-Sum _) c.requires))
 
-pub evaluate-evaluate-requires : goal.evaluate-evaluate-requires
-evaluate-evaluate-requires t c = (search (rules, the_lemmas), rw c.get.ensures (subst IsTrue (ap spec.is_evaluable c.in-Power.is ∙ v.evaluable-Power _ _) c.requires))
+pub fraction-product-requires : goal.fraction-product-requires
+fraction-product-requires t c = (search (rules, the_lemmas), rw c.as_slice-in-Product.ensures (subst IsTrue (ap spec.is_evaluable c.in-Product.is ∙ v.evaluable-Product _) c.requires))
 
-pub evaluate-returns-in-Whole : goal.evaluate-returns-in-Whole
-evaluate-returns-in-Whole t c =
+pub fraction-fraction-requires : goal.fraction-fraction-requires
+fraction-fraction-requires t c = (search (rules, the_lemmas), rw c.get.ensures (subst IsTrue (ap spec.is_evaluable c.in-Power.is ∙ v.evaluable-Power _ _) c.requires))
+
+pub fraction-returns-in-Whole : goal.fraction-returns-in-Whole
+fraction-returns-in-Whole t c =
     let same = v.same_whole _ (subst IsTrue (ap spec.is_evaluable c.in-Whole.is ∙ v.evaluable-Whole _) c.requires) in
-    rw (c.in-Whole.is, v.value_of-Whole (actions_of c.args.algebra.now) c.in-Whole.n) (subst (λ z. Answers (Ok (spec.operator_of_polynomial (number z))) c.whole.result) same c.whole.ensures)
+    rw (c.in-Whole.is, v.fraction_of-Whole (actions_of c.args.algebra.now) c.in-Whole.n) (subst (λ z. Answers (Ok (over_one (spec.operator_of_polynomial (number z)))) c.whole.result) same c.whole.ensures)
 
-pub evaluate-returns-in-Name : goal.evaluate-returns-in-Name
-evaluate-returns-in-Name t c = rw (c.in-Name.is, v.value_of-Name (actions_of c.args.algebra.now) c.in-Name.i) c.name.ensures
+pub fraction-returns-in-Ratio : goal.fraction-returns-in-Ratio
+fraction-returns-in-Ratio t c =
+    let same = v.same_ratio c.in-Ratio.n c.in-Ratio.d (subst IsTrue (ap spec.is_evaluable c.in-Ratio.is ∙ v.evaluable-Ratio c.in-Ratio.n c.in-Ratio.d) c.requires) in
+    rw (c.in-Ratio.is, v.fraction_of-Ratio (actions_of c.args.algebra.now) c.in-Ratio.n c.in-Ratio.d) (subst (λ (z : ℤ × ℤ). Answers (Ok (spec.ratio z.0 z.1)) c.ratio.result) (ap₂ (λ (n d : ℤ). (n, d)) same.0 same.1) c.ratio.ensures)
 
-pub evaluate-returns-in-Symbol : goal.evaluate-returns-in-Symbol
-evaluate-returns-in-Symbol t c = rw (c.in-Symbol.is, v.value_of-Symbol (actions_of c.args.algebra.now) c.in-Symbol.i) c.symbol.ensures
+pub fraction-returns-in-Name : goal.fraction-returns-in-Name
+fraction-returns-in-Name t c = rw (c.in-Name.is, v.fraction_of-Name (actions_of c.args.algebra.now) c.in-Name.i) c.name.ensures
 
-pub evaluate-returns-in-Sum : goal.evaluate-returns-in-Sum
-evaluate-returns-in-Sum t c = rw (c.in-Sum.is, v.value_of-Sum (actions_of c.args.algebra.now) c.in-Sum.terms, sym c.as_slice.ensures) c.sum.ensures
+pub fraction-returns-in-Symbol : goal.fraction-returns-in-Symbol
+fraction-returns-in-Symbol t c = rw (c.in-Symbol.is, v.fraction_of-Symbol (actions_of c.args.algebra.now) c.in-Symbol.i) c.symbol.ensures
 
-pub evaluate-returns-in-Product : goal.evaluate-returns-in-Product
-evaluate-returns-in-Product t c = rw (c.in-Product.is, v.value_of-Product (actions_of c.args.algebra.now) c.in-Product.factors, sym c.as_slice-in-Product.ensures) c.product.ensures
+pub fraction-returns-in-Sum : goal.fraction-returns-in-Sum
+fraction-returns-in-Sum t c = rw (c.in-Sum.is, v.fraction_of-Sum (actions_of c.args.algebra.now) c.in-Sum.terms, sym c.as_slice.ensures) c.sum.ensures
 
-pub sum-evaluate-requires : goal.sum-evaluate-requires
-sum-evaluate-requires t c =
+pub fraction-returns-in-Product : goal.fraction-returns-in-Product
+fraction-returns-in-Product t c = rw (c.in-Product.is, v.fraction_of-Product (actions_of c.args.algebra.now) c.in-Product.factors, sym c.as_slice-in-Product.ensures) c.product.ensures
+
+pub sum-fraction-requires : goal.sum-fraction-requires
+sum-fraction-requires t c =
     let here = next_item c.args.terms.now c.loop-term.term-index c.term-item.result c.loop-term-test.true c.term-item.is in
     (search (rules, the_lemmas), (v.first_evaluable_term _ _ (subst (λ xs. IsTrue (spec.all_evaluable_terms xs)) here c.loop-term.invariant.evaluable)).0)
 
-pub product-evaluate-requires : goal.product-evaluate-requires
-product-evaluate-requires t c =
+pub product-fraction-requires : goal.product-fraction-requires
+product-fraction-requires t c =
     let here = next_item c.args.factors.now c.loop-factor.factor-index c.factor-item.result c.loop-factor-test.true c.factor-item.is in
     (search (rules, the_lemmas), (v.first_evaluable _ _ (subst (λ xs. IsTrue (spec.all_evaluable xs)) here c.loop-factor.invariant.evaluable)).0)
 
-pub evaluate-returns-in_err-base-in-Power : goal.evaluate-returns-in_err-base-in-Power
-evaluate-returns-in_err-base-in-Power t c = rw (c.in-Power.is, v.value_of-Power (actions_of c.args.algebra.now) c.in-Power.base c.in-Power.n, sym c.get.ensures) (passes_on _ _ _ _ c.from_residual.ensures c.in_err-base-in-Power.ensures)
+pub fraction-returns-in_err-base-in-Power : goal.fraction-returns-in_err-base-in-Power
+fraction-returns-in_err-base-in-Power t c = rw (c.in-Power.is, v.fraction_of-Power (actions_of c.args.algebra.now) c.in-Power.base c.in-Power.n, sym c.get.ensures) (passes_on _ _ _ _ c.from_residual.ensures c.in_err-base-in-Power.ensures)
 
-pub evaluate-returns-in_ok-base-in-Power : goal.evaluate-returns-in_ok-base-in-Power
-evaluate-returns-in_ok-base-in-Power t c = rw (c.in-Power.is, v.value_of-Power (actions_of c.args.algebra.now) c.in-Power.base c.in-Power.n, sym c.get.ensures, c.in_ok-base-in-Power.ensures) c.power.ensures
+pub fraction-returns-in_ok-base-in-Power : goal.fraction-returns-in_ok-base-in-Power
+fraction-returns-in_ok-base-in-Power t c = rw (c.in-Power.is, v.fraction_of-Power (actions_of c.args.algebra.now) c.in-Power.base c.in-Power.n, sym c.get.ensures, c.in_ok-base-in-Power.ensures) c.power.ensures
 
 pub sum-returns-in_err-value : goal.sum-returns-in_err-value
 sum-returns-in_err-value t c =
     let a = actions_of c.args.algebra.now in
     let so_far = c.loop-term.so_far in
     let item = c.term-item.result in
-    let e = one_item (λ xs. spec.sum_from so_far (spec.signed a xs)) c.args.terms.now c.loop-term.term-index item c.loop-term-test.true c.term-item.is c.loop-term.invariant.so_far ∙ v.sum_step a so_far item _ in
+    let e = one_item (λ xs. spec.sum_from a so_far (spec.signed a xs)) c.args.terms.now c.loop-term.term-index item c.loop-term-test.true c.term-item.is c.loop-term.invariant.so_far ∙ v.sum_step a so_far item _ in
     rw e (passes_on _ _ _ _ c.from_residual.ensures c.in_err-value.ensures)
 
 pub sum-returns-in_err-more : goal.sum-returns-in_err-more
@@ -75,7 +84,7 @@ sum-returns-in_err-more t c =
     let a = actions_of c.args.algebra.now in
     let so_far = c.loop-term.so_far in
     let item = c.term-item.result in
-    let e = one_item (λ xs. spec.sum_from so_far (spec.signed a xs)) c.args.terms.now c.loop-term.term-index item c.loop-term-test.true c.term-item.is c.loop-term.invariant.so_far ∙ v.sum_step a so_far item _ in
+    let e = one_item (λ xs. spec.sum_from a so_far (spec.signed a xs)) c.args.terms.now c.loop-term.term-index item c.loop-term-test.true c.term-item.is c.loop-term.invariant.so_far ∙ v.sum_step a so_far item _ in
     rw (e, c.in_ok-value.ensures) (passes_on _ _ _ _ c.from_residual-in_err-more.ensures c.in_err-more.ensures)
 
 pub sum-loop-term-preserved : goal.sum-loop-term-preserved
@@ -83,7 +92,7 @@ sum-loop-term-preserved t c =
     let a = actions_of c.args.algebra.now in
     let so_far = c.loop-term.so_far in
     let item = c.term-item.result in
-    let e = one_item (λ xs. spec.sum_from so_far (spec.signed a xs)) c.args.terms.now c.loop-term.term-index item c.loop-term-test.true c.term-item.is c.loop-term.invariant.so_far ∙ v.sum_step a so_far item _ in
+    let e = one_item (λ xs. spec.sum_from a so_far (spec.signed a xs)) c.args.terms.now c.loop-term.term-index item c.loop-term-test.true c.term-item.is c.loop-term.invariant.so_far ∙ v.sum_step a so_far item _ in
     let here = next_item c.args.terms.now c.loop-term.term-index item c.loop-term-test.true c.term-item.is in
     record {
       so_far = rw (e, c.in_ok-value.ensures, c.in_ok-more.ensures) refl;
@@ -94,22 +103,22 @@ pub sum-returns-in-Some : goal.sum-returns-in-Some
 unfolding sum_from
 sum-returns-in-Some t c =
     let a = actions_of c.args.algebra.now in
-    let e = no_item (λ xs. spec.sum_from c.loop-term.so_far (spec.signed a xs)) c.args.terms.now c.loop-term.term-index c.loop-term-test.false c.loop-term.invariant.so_far in
-    e ∙ ap (λ o. let r : Checked Operator = Ok (spec.or_else no_operator o) in r) c.in-Some.is
+    let e = no_item (λ xs. spec.sum_from a c.loop-term.so_far (spec.signed a xs)) c.args.terms.now c.loop-term.term-index c.loop-term-test.false c.loop-term.invariant.so_far in
+    e ∙ ap (λ o. let r : Checked Value = Ok (spec.or_else (over_one no_operator) o) in r) c.in-Some.is
 
 pub sum-returns-in-None : goal.sum-returns-in-None
 unfolding sum_from
 sum-returns-in-None t c =
     let a = actions_of c.args.algebra.now in
-    let e = no_item (λ xs. spec.sum_from c.loop-term.so_far (spec.signed a xs)) c.args.terms.now c.loop-term.term-index c.loop-term-test.false c.loop-term.invariant.so_far in
-    e ∙ ap (λ o. let r : Checked Operator = Ok (spec.or_else no_operator o) in r) c.in-None.is ∙ ap Ok (sym c.zero.ensures)
+    let e = no_item (λ xs. spec.sum_from a c.loop-term.so_far (spec.signed a xs)) c.args.terms.now c.loop-term.term-index c.loop-term-test.false c.loop-term.invariant.so_far in
+    e ∙ ap (λ o. let r : Checked Value = Ok (spec.or_else (over_one no_operator) o) in r) c.in-None.is ∙ ap Ok (sym (c.over_one.ensures ∙ ap over_one c.zero.ensures))
 
 pub product-returns-in_err-value : goal.product-returns-in_err-value
 product-returns-in_err-value t c =
     let a = actions_of c.args.algebra.now in
     let so_far = c.loop-factor.so_far in
     let item = c.factor-item.result in
-    let e = one_item (λ xs. spec.product_from a so_far (spec.values a xs)) c.args.factors.now c.loop-factor.factor-index item c.loop-factor-test.true c.factor-item.is c.loop-factor.invariant.so_far ∙ v.product_step a so_far item _ in
+    let e = one_item (λ xs. spec.product_from a so_far (spec.fractions a xs)) c.args.factors.now c.loop-factor.factor-index item c.loop-factor-test.true c.factor-item.is c.loop-factor.invariant.so_far ∙ v.product_step a so_far item _ in
     rw e (passes_on _ _ _ _ c.from_residual.ensures c.in_err-value.ensures)
 
 pub product-returns-in_err-more : goal.product-returns-in_err-more
@@ -117,7 +126,7 @@ product-returns-in_err-more t c =
     let a = actions_of c.args.algebra.now in
     let so_far = c.loop-factor.so_far in
     let item = c.factor-item.result in
-    let e = one_item (λ xs. spec.product_from a so_far (spec.values a xs)) c.args.factors.now c.loop-factor.factor-index item c.loop-factor-test.true c.factor-item.is c.loop-factor.invariant.so_far ∙ v.product_step a so_far item _ in
+    let e = one_item (λ xs. spec.product_from a so_far (spec.fractions a xs)) c.args.factors.now c.loop-factor.factor-index item c.loop-factor-test.true c.factor-item.is c.loop-factor.invariant.so_far ∙ v.product_step a so_far item _ in
     rw (e, c.in_ok-value.ensures) (passes_on _ _ _ _ c.from_residual-in_err-more.ensures c.in_err-more.ensures)
 
 pub product-loop-factor-preserved : goal.product-loop-factor-preserved
@@ -125,7 +134,7 @@ product-loop-factor-preserved t c =
     let a = actions_of c.args.algebra.now in
     let so_far = c.loop-factor.so_far in
     let item = c.factor-item.result in
-    let e = one_item (λ xs. spec.product_from a so_far (spec.values a xs)) c.args.factors.now c.loop-factor.factor-index item c.loop-factor-test.true c.factor-item.is c.loop-factor.invariant.so_far ∙ v.product_step a so_far item _ in
+    let e = one_item (λ xs. spec.product_from a so_far (spec.fractions a xs)) c.args.factors.now c.loop-factor.factor-index item c.loop-factor-test.true c.factor-item.is c.loop-factor.invariant.so_far ∙ v.product_step a so_far item _ in
     let here = next_item c.args.factors.now c.loop-factor.factor-index item c.loop-factor-test.true c.factor-item.is in
     record {
       so_far = rw (e, c.in_ok-value.ensures, c.in_ok-more.ensures) refl;
@@ -136,12 +145,12 @@ pub product-returns-in-Some : goal.product-returns-in-Some
 unfolding product_from
 product-returns-in-Some t c =
     let a = actions_of c.args.algebra.now in
-    let e = no_item (λ xs. spec.product_from a c.loop-factor.so_far (spec.values a xs)) c.args.factors.now c.loop-factor.factor-index c.loop-factor-test.false c.loop-factor.invariant.so_far in
-    e ∙ ap (λ o. let r : Checked Operator = Ok (spec.or_else spec.one_operator o) in r) c.in-Some.is
+    let e = no_item (λ xs. spec.product_from a c.loop-factor.so_far (spec.fractions a xs)) c.args.factors.now c.loop-factor.factor-index c.loop-factor-test.false c.loop-factor.invariant.so_far in
+    e ∙ ap (λ o. let r : Checked Value = Ok (spec.or_else spec.one_value o) in r) c.in-Some.is
 
 pub product-returns-in-None : goal.product-returns-in-None
 unfolding product_from
 product-returns-in-None t c =
     let a = actions_of c.args.algebra.now in
-    let e = no_item (λ xs. spec.product_from a c.loop-factor.so_far (spec.values a xs)) c.args.factors.now c.loop-factor.factor-index c.loop-factor-test.false c.loop-factor.invariant.so_far in
-    rw (e ∙ ap (λ o. let r : Checked Operator = Ok (spec.or_else spec.one_operator o) in r) c.in-None.is) c.one.ensures
+    let e = no_item (λ xs. spec.product_from a c.loop-factor.so_far (spec.fractions a xs)) c.args.factors.now c.loop-factor.factor-index c.loop-factor-test.false c.loop-factor.invariant.so_far in
+    rw (e ∙ ap (λ o. let r : Checked Value = Ok (spec.or_else spec.one_value o) in r) c.in-None.is) c.one.ensures

@@ -1,7 +1,7 @@
 use Rattle.std.proofs.Common.{◌-◌, ◌+◌, rules, arith}
 use Rattle.std.proofs.lemmas.Grind.{common_steps}
 use Rattle.ct_ore.specs.Naming.{actions_of}
-use Rattle.ct_ore.specs.Measures.{checked_product}
+use Rattle.ct_problem.specs.ValueArithmetic.{checked_times}
 use Rattle.ct_problem.specs.Value.{power_from}
 use Rattle.ct_problem.proofs.Turns.{one_more, no_more}
 use Rattle.ct_problem.proofs.Answering.{passes_on}
@@ -13,7 +13,7 @@ returns-in_err-so_far-2 c =
     let a = actions_of c.args.algebra.now in
     let base = c.args.base.now in
     let e = one_more (λ n. power_from a c.loop-turn.so_far n base) _ c.loop-turn._turn c.loop-turn-test.true c.loop-turn.invariant in
-    rw e (passes_on (checked_product a c.loop-turn.so_far base) (λ more. power_from a more (c.args.exponent - (c.loop-turn._turn + 1)) base) _ _ c.from_residual-in_err-so_far-2.ensures c.in_err-so_far-2.ensures)
+    rw e (passes_on (checked_times a c.loop-turn.so_far base) (λ more. power_from a more (c.args.exponent - (c.loop-turn._turn + 1)) base) _ _ c.from_residual-in_err-so_far-2.ensures c.in_err-so_far-2.ensures)
 
 pub loop-turn-preserved : goal.loop-turn-preserved
 unfolding power_from
