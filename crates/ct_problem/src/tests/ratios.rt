@@ -1,8 +1,8 @@
 // Values over whole numbers: the operators of each step, in lowest terms, and where a step overflows.
+ghost use Rattle.std.specs.Prelude.{◌<◌, ◌≤◌, ◌≤ℤ◌, negsuc};
+ghost use Rattle.ct_mono.specs.Limits.{largest_norm};
 
 use super::is_operator;
-use crate::evaluate;
-use crate::expr::Expr;
 use crate::value::Value;
 use ct_mono::{Fault, Kind, LARGEST_NORM, NoMemory};
 use ct_ore::{Action, Algebra, NameInfo, Op, Role};
@@ -22,29 +22,68 @@ fn shift(alloc: Global) -> Result<Algebra, NoMemory> {
     Ok(Algebra::new(names))
 }
 
-fn number(alloc: Global, c: i128) -> Result<Op, NoMemory> {
+fn number(alloc: Global, c: i128) -> Result<Op, NoMemory>
+    requires { negsuc 170141183460469231731687303715884105726 ≤ℤ c }
+{
     let p = Poly::constant(alloc, c)?;
     let operator = Op::of_poly(alloc, p)?;
     Ok(operator)
 }
 
-fn name(alloc: Global) -> Result<Value, NoMemory> {
+/// The number 1 over another.
+fn part(alloc: Global, whole: u128) -> Result<Value, NoMemory>
+    requires some { 0 < whole }
+    requires within { whole ≤ largest_norm }
+{
+    let one = number(alloc, 1)?;
+    let value = Value::lowest(alloc, one, whole)?;
+    Ok(value)
+}
+
+/// The name n, so many times.
+fn names(alloc: Global, algebra: &Algebra, c: i128) -> Result<Value, Fault>
+    requires { negsuc 170141183460469231731687303715884105726 ≤ℤ c }
+{
     let p = Poly::name(alloc, 0)?;
-    let operator = Op::of_poly(alloc, p)?;
+    let n = Op::of_poly(alloc, p)?;
+    let operator = number(alloc, c)?.mul(alloc, algebra, &n)?;
     Ok(Value::over_one(operator))
 }
 
+/// The value of 1/2*n + 1/3.
+fn sum(alloc: Global, algebra: &Algebra) -> Result<Value, Fault> {
+    let half = part(alloc, 2)?;
+    let n = names(alloc, algebra, 1)?;
+    let product = half.times(alloc, algebra, &n)?;
+    let third = part(alloc, 3)?;
+    product.plus(alloc, algebra, third)
+}
+
+/// The sum of n, so many times, and 1/2.
+fn with_half(alloc: Global, algebra: &Algebra, c: i128) -> Result<Value, Fault>
+    requires { negsuc 170141183460469231731687303715884105726 ≤ℤ c }
+{
+    let n = names(alloc, algebra, c)?;
+    let half = part(alloc, 2)?;
+    n.plus(alloc, algebra, half)
+}
+
 #[test]
-fn steps_keep_lowest_terms(rt: HostRuntime) -> Result<(), Fail> {
+fn sums_are_cleared(rt: HostRuntime) -> Result<(), Fail> {
     let algebra = shift(rt.alloc())?;
-    let half = Value::lowest(rt.alloc(), number(rt.alloc(), 1)?, 2)?;
-    let third = Value::lowest(rt.alloc(), number(rt.alloc(), 1)?, 3)?;
-    let n = name(rt.alloc())?;
-    let sum = half
-        .times(rt.alloc(), &algebra, &n)?
-        .plus(rt.alloc(), &algebra, third)?;
+    let sum = sum(rt.alloc(), &algebra)?;
     assert_eq!(rt; sum.whole, 6);
     assert!(rt; is_operator(&sum.operator, &[(0, 1, 0, 3), (0, 0, 0, 2)]));
+    let negative = sum.negated(rt.alloc())?;
+    assert_eq!(rt; negative.whole, 6);
+    assert!(rt; is_operator(&negative.operator, &[(0, 1, 0, -3), (0, 0, 0, -2)]));
+    Ok(())
+}
+
+#[test]
+fn whole_numbers_are_multiplied(rt: HostRuntime) -> Result<(), Fail> {
+    let algebra = shift(rt.alloc())?;
+    let sum = sum(rt.alloc(), &algebra)?;
     let square = sum.times(rt.alloc(), &algebra, &sum)?;
     assert_eq!(rt; square.whole, 36);
     assert!(rt;
@@ -53,16 +92,17 @@ fn steps_keep_lowest_terms(rt: HostRuntime) -> Result<(), Fail> {
             &[(0, 2, 0, 9), (0, 1, 0, 12), (0, 0, 0, 4)]
         )
     );
-    let two = Value::over_one(number(rt.alloc(), 2)?);
-    let twice = two.times(rt.alloc(), &algebra, &sum)?;
-    assert_eq!(rt; twice.whole, 3);
-    let other = Value::lowest(rt.alloc(), number(rt.alloc(), 1)?, 2)?;
+    Ok(())
+}
+
+#[test]
+fn a_difference_of_halves_is_zero(rt: HostRuntime) -> Result<(), Fail> {
+    let algebra = shift(rt.alloc())?;
+    let half = part(rt.alloc(), 2)?;
+    let other = part(rt.alloc(), 2)?;
     let none = half.minus(rt.alloc(), &algebra, other)?;
     assert_eq!(rt; none.whole, 1);
     assert!(rt; none.operator.is_zero());
-    let negative = sum.negated(rt.alloc())?;
-    assert_eq!(rt; negative.whole, 6);
-    assert!(rt; is_operator(&negative.operator, &[(0, 1, 0, -3), (0, 0, 0, -2)]));
     Ok(())
 }
 
@@ -74,29 +114,28 @@ fn a_number_that_divides_all_goes_out(rt: HostRuntime) -> Result<(), Fail> {
     let value = Value::lowest(rt.alloc(), twice, 4)?;
     assert_eq!(rt; value.whole, 2);
     assert!(rt; is_operator(&value.operator, &[(1, 0, 0, 1)]));
-    let quotient = evaluate(rt.alloc(), &algebra, &Expr::Ratio(6, 4))?;
-    assert!(rt; is_operator(&quotient, &[(0, 0, 0, 3)]));
-    let zero = evaluate(rt.alloc(), &algebra, &Expr::Ratio(0, 4))?;
-    assert!(rt; zero.is_zero());
     Ok(())
 }
 
 #[test]
 fn steps_overflow_past_the_limit(rt: HostRuntime) -> Result<(), Fail> {
     let algebra = shift(rt.alloc())?;
-    let least = Value::lowest(rt.alloc(), number(rt.alloc(), 1)?, LARGEST_NORM)?;
-    let half = Value::lowest(rt.alloc(), number(rt.alloc(), 1)?, 2)?;
+    let least = part(rt.alloc(), LARGEST_NORM)?;
+    let half = part(rt.alloc(), 2)?;
     let product = least.times(rt.alloc(), &algebra, &half);
     assert!(rt; matches!(&product, Err(Fault::Overflow(Kind::Number))));
     let multiple = least.plus(rt.alloc(), &algebra, half);
     assert!(rt; matches!(&multiple, Err(Fault::Overflow(Kind::Number))));
-    let most = ((LARGEST_NORM - 1) / 2) as i128;
-    for (number_before, fits) in [(most, true), (most + 1, false)] {
-        let before = Value::over_one(number(rt.alloc(), number_before)?);
-        let great = before.times(rt.alloc(), &algebra, &name(rt.alloc())?)?;
-        let half = Value::lowest(rt.alloc(), number(rt.alloc(), 1)?, 2)?;
-        let sum = great.plus(rt.alloc(), &algebra, half);
-        assert_eq!(rt; sum.is_ok(), fits);
-    }
+    Ok(())
+}
+
+#[test]
+fn clearing_overflows_past_the_limit(rt: HostRuntime) -> Result<(), Fail> {
+    let algebra = shift(rt.alloc())?;
+    let most = 85070591730234615865843651857942052863;
+    let fits = with_half(rt.alloc(), &algebra, most)?;
+    assert!(rt; is_operator(&fits.operator, &[(0, 1, 0, 2 * most), (0, 0, 0, 1)]));
+    let past = with_half(rt.alloc(), &algebra, most + 1);
+    assert!(rt; matches!(&past, Err(Fault::Overflow(Kind::Number))));
     Ok(())
 }
