@@ -1,5 +1,5 @@
 -- A polynomial over a whole number that divides each coefficient: times the number it is the polynomial, and its content
--- times the number divides the content. Main lemmas `each_divides`, `part_whole` and `content_of_part`, which Normal cites.
+-- times the number divides the content. Main lemmas `part_whole` and `content_of_part`, which Normal cites.
 use Rattle.std.specs.Prelude.{◌≡◌, refl, ℕ, zero, suc, ◌*◌, ℤ, pos, negsuc, ◌*ℤ◌, int_div, unsigned_abs, true, false, cond, T, List, [], ◌∷◌, map}
 use Rattle.std.proofs.Common.{Ordering, Less, Equal, Greater, sym, ◌∙◌, ap, ap₂, subst}
 use Rattle.std.specs.Int.{◌∣◌}

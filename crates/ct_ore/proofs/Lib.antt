@@ -26,3 +26,4 @@ pub mod Runs
 pub mod OneTerm
 pub mod WholeDivisors
 pub mod WholeMultiples
+pub mod WholeLaws

@@ -33,7 +33,7 @@ use Rattle.ct_ore.proofs.WrittenOperators.{terms-no_operator}
 
 -- ---- a factor that is zero
 
-product_of-none : (a : Name → Action) (p : Operator) → product_of a p no_operator ≡ no_operator
+pub product_of-none : (a : Name → Action) (p : Operator) → product_of a p no_operator ≡ no_operator
 product_of-none a p =
     none_added operator_group (product_of a p no_operator)
     (ap (product_of a p) (sym twice) ∙ product_of-sum a p no_operator no_operator ∙ sums_are _ _)

@@ -4,6 +4,7 @@ pub mod Plainness
 pub mod ValueArithmetic
 pub mod ValueSteps
 pub mod OverOne
+pub mod ExactValues
 pub mod Values
 pub mod Answering
 pub mod Steps
