@@ -1,8 +1,17 @@
 //! Products and exact divisions of polynomials and sums of fractions in plain Rust, with the same words as
-//! `bench_division`: terms in falling order, products by halves that are merged, divisions whose rest is merged with a
-//! multiple of the divisor. With `copying` in place of `divide`, each step of a division copies the rest and makes the
-//! multiple as a list first. A sum is cleared by the other denominator, and each factor is divided out where it goes.
+//! `bench_division`: terms in falling order, products by halves that are merged, divisions in a box of cells where that is
+//! small enough. In place of `divide`, `merging` merges the rest with a multiple of the divisor in each step, and `copying`
+//! copies the rest and makes the multiple as a list first. A sum is cleared by the other denominator, and each factor is
+//! divided out where it goes.
 use std::cmp::Ordering;
+
+/// How a division is done.
+#[derive(Clone, Copy, PartialEq, Eq)]
+enum Way {
+    Cells,
+    Merging,
+    Copying,
+}
 
 #[derive(Clone, Copy, PartialEq, Eq)]
 struct Term {
@@ -120,8 +129,102 @@ fn with_multiple(mut p: &[Term], t: &Term, q: &[Term]) -> Poly {
 }
 
 const LARGEST: u128 = i128::MAX as u128;
+const MOST_TERMS: usize = 1 << 20;
+const MOST_CELLS: usize = 1 << 20;
 
-fn divide(p: &[Term], f: &[Term], copies: bool) -> Option<Poly> {
+/// A coefficient at the place of its monomial in a box.
+#[derive(Clone, Copy)]
+struct Spot {
+    place: usize,
+    coef: i128,
+}
+
+fn tops(ts: &[Term]) -> [u16; 6] {
+    ts.iter().fold([0; 6], |tops, t| std::array::from_fn(|i| tops[i].max(t.mono[i])))
+}
+
+/// How many cells the box has, where they are few for so many terms.
+fn cells_below(tops: &[u16; 6], terms: usize) -> Option<usize> {
+    let most = MOST_CELLS.min(64 * (terms + 64));
+    tops.iter().try_fold(1, |cells, top| {
+        let cells = cells * (usize::from(*top) + 1);
+        (cells <= most).then_some(cells)
+    })
+}
+
+fn place(tops: &[u16; 6], mono: &[u16; 6]) -> usize {
+    tops.iter().zip(mono).fold(0, |at, (top, e)| at * (usize::from(*top) + 1) + usize::from(*e))
+}
+
+fn mono_at(tops: &[u16; 6], place: usize) -> [u16; 6] {
+    let mut left = place;
+    let mut mono = [0; 6];
+    for i in (0..6).rev() {
+        let width = usize::from(tops[i]) + 1;
+        mono[i] = (left % width) as u16;
+        left /= width;
+    }
+    mono
+}
+
+fn spots(tops: &[u16; 6], ts: &[Term]) -> Vec<Spot> {
+    ts.iter().map(|t| Spot { place: place(tops, &t.mono), coef: t.coef }).collect()
+}
+
+fn add_multiple(cells: &mut [i128], base: usize, coef: i128, spots: &[Spot]) {
+    for s in spots {
+        cells[base + s.place] += coef * s.coef;
+    }
+}
+
+/// A quotient that is found in cells, one for each monomial of a box, from the highest down.
+fn divide_in_cells(p: &[Term], f: &[Term]) -> Option<Poly> {
+    let whole = tops(p);
+    let room = over(&whole, &tops(f))?;
+    let mut cells = vec![0; cells_below(&whole, p.len() + f.len())?];
+    add_multiple(&mut cells, 0, 1, &spots(&whole, p));
+    let divisor = spots(&whole, f);
+    let lead = divisor.iter().copied().max_by_key(|s| s.place)?;
+    let (p_norm, f_norm) = (norm(p), norm(f));
+    let mut quotient = Poly::new();
+    let mut quotient_norm = 0u128;
+    for at in (0..cells.len()).rev() {
+        let c = cells[at];
+        if c == 0 {
+            continue;
+        }
+        let base = at.checked_sub(lead.place)?;
+        let mono = mono_at(&whole, base);
+        over(&room, &mono)?;
+        if c % lead.coef != 0 {
+            return None;
+        }
+        let coef = c / lead.coef;
+        quotient_norm += coef.unsigned_abs();
+        let made = quotient_norm.checked_mul(f_norm)?;
+        if made > LARGEST || p_norm + made > LARGEST || p.len() + (quotient.len() + 1) * f.len() > MOST_TERMS {
+            return None;
+        }
+        add_multiple(&mut cells, base, -coef, &divisor);
+        quotient.push(Term { mono, coef });
+    }
+    if cells.iter().any(|c| *c != 0) {
+        return None;
+    }
+    quotient.sort_unstable_by(|t, u| compare(&u.mono, &t.mono));
+    Some(quotient)
+}
+
+fn divide(p: &[Term], f: &[Term], way: Way) -> Option<Poly> {
+    if way == Way::Cells {
+        if let Some(quotient) = divide_in_cells(p, f) {
+            return Some(quotient);
+        }
+    }
+    divide_by_steps(p, f, way == Way::Copying)
+}
+
+fn divide_by_steps(p: &[Term], f: &[Term], copies: bool) -> Option<Poly> {
     let f_norm = norm(f);
     let mut rest = p.to_vec();
     let mut quotient = Poly::new();
@@ -134,7 +237,7 @@ fn divide(p: &[Term], f: &[Term], copies: bool) -> Option<Poly> {
         let u = Term { mono, coef: top.coef / f[0].coef };
         let size = u.coef.unsigned_abs();
         let made = size.saturating_mul(f_norm);
-        if rest.len() + f.len() > 1 << 20 || made > LARGEST || norm(&rest) + made > LARGEST {
+        if rest.len() + f.len() > MOST_TERMS || made > LARGEST || norm(&rest) + made > LARGEST {
             return None;
         }
         let negative = Term { mono, coef: -u.coef };
@@ -163,7 +266,7 @@ fn fraction_sum(p: &[Term], f: &[Term], q: &[Term], g: &[Term]) -> Poly {
     let mut n = sum(&product(p, g), &product(q, f));
     let (low, high) = if f.iter().map(|t| (t.mono, t.coef)).lt(g.iter().map(|t| (t.mono, t.coef))) { (f, g) } else { (g, f) };
     for factor in [low, high] {
-        if let Some(quotient) = divide(&n, factor, false) {
+        if let Some(quotient) = divide(&n, factor, Way::Cells) {
             n = quotient;
         }
     }
@@ -192,7 +295,9 @@ fn main() {
         found = match mode {
             "multiply" => Some(product(&p, &q)),
             "sum" => Some(fraction_sum(&p, &form(1, 1, 2), &q, &form(2, 1, 1))),
-            mode => divide(&whole, &q, mode == "copying"),
+            "copying" => divide(&whole, &q, Way::Copying),
+            "merging" => divide(&whole, &q, Way::Merging),
+            _ => divide(&whole, &q, Way::Cells),
         };
     }
     match found {

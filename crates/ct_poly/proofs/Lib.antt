@@ -26,3 +26,11 @@ pub mod DivisionLaws
 pub mod MergedMultiples
 pub mod DivisionLists
 pub mod DivisionLoop
+pub mod CellNumbers
+pub mod AddedSpots
+pub mod FittingQuotients
+pub mod Tables
+pub mod BoundingBoxes
+pub mod CellSteps
+pub mod GatheredTerms
+pub mod CellAnswers

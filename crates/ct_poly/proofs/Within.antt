@@ -156,7 +156,7 @@ derivatives_within i p =
       omega (arith, norm_of-terms (made_of (derivative (place i)) ts) list.falling derives, list.small, sum_by-entries (λ e. nat_abs e.1 * exp e.0 (place i)) ts, ap (sum_by (λ e. nat_abs e.1 * exp e.0 (place i))) (entries-term_list p.terms)),
     )
 
-term_within : (m : Mono) (c : ℤ) → (count (term m c) ≤ 1) × (norm (term m c) ≤ nat_abs c)
+pub term_within : (m : Mono) (c : ℤ) → (count (term m c) ≤ 1) × (norm (term m c) ≤ nat_abs c)
 unfolding count norm single
 term_within m c = subst (λ p. (length p.terms ≤ 1) × (norm_of p.terms ≤ nat_abs c)) (sym (term_is m c)) (let one = insert_within m c [] in (one.0, omega (arith, one.1)))
 

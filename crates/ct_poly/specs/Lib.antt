@@ -8,4 +8,5 @@ pub mod Order
 pub mod Parts
 pub mod Powers
 pub mod Accumulation
+pub mod Cells
 pub mod MeasureLaws

@@ -1,5 +1,5 @@
 // Exact division, by leading terms: each step takes the quotient of the leading terms, and what is left has lower monomials.
-ghost use Rattle.std.specs.Prelude.{◌≡◌, ◌≢◌, ◌+◌, ◌*◌, ◌≤◌, ◌++◌, [], ◌∷◌, IfOk, IfSome, OnOk, MatchOption, None, Some, length, pos, unsigned_abs};
+ghost use Rattle.std.specs.Prelude.{◌≡◌, ◌≢◌, ◌+◌, ◌*◌, ◌≤◌, ◌++◌, [], ◌∷◌, IfOk, IfSome, OnOk, MatchOption, None, Ok, Some, length, pos, unsigned_abs};
 ghost use Rattle.ct_algebra.specs.Leading.{leading};
 ghost use Rattle.ct_algebra.specs.Polynomial.{Polynomial, polys, times};
 ghost use Rattle.ct_algebra.specs.Substitution.{term};
@@ -10,7 +10,9 @@ ghost use Rattle.ct_poly.specs.Measures.{minus};
 ghost use Rattle.ct_poly.specs.Terms.{entries, entry, size_of, IsFalling, IsListOf, poly_of_terms};
 
 use crate::accumulation::sum_with_multiple;
+use crate::cell_division::quotient_in_cells;
 use crate::content::quotient_of_coefs;
+use crate::gathering::gathered;
 use crate::measures::norm_of_terms;
 use crate::poly::Poly;
 use crate::product::product_of_coefs;
@@ -21,9 +23,9 @@ use std::alloc::Global;
 
 /// How many terms a list has, and the sum of the absolute values of its coefficients.
 #[derive(Clone, Copy)]
-struct Measure {
-    count: usize,
-    norm: u128,
+pub(crate) struct Measure {
+    pub(crate) count: usize,
+    pub(crate) norm: u128,
 }
 
 impl Poly {
@@ -49,7 +51,35 @@ impl Poly {
         }
     }
 
+    /// In cells where that finds a quotient, and else by steps.
     fn divide(&self, alloc: Global, by: &Poly) -> Result<Option<Poly>, Fault>
+        ensures { Answers (checked_quotient self.now by.now) result }
+    {
+        if let Some(found) = self.divide_in_cells(alloc, by)? {
+            return Ok(Some(found));
+        }
+        self.divide_by_steps(alloc, by)
+    }
+
+    /// A quotient that is found in cells, which are not tried where the leading terms have none.
+    fn divide_in_cells(&self, alloc: Global, by: &Poly) -> Result<Option<Poly>, NoMemory>
+        ensures { IfOk result (λ o. IfSome o (λ q. checked_quotient self.now by.now ≡ Ok (Some q))) }
+    {
+        self.within_limits();
+        by.within_limits();
+        let dividend = self.terms();
+        let divisor = by.terms();
+        if next_term(dividend, divisor).is_none() {
+            return Ok(None);
+        }
+        let Some(found) = quotient_in_cells(alloc, dividend, divisor)? else {
+            return Ok(None);
+        };
+        let terms = gathered(alloc, found.as_slice())?;
+        Ok(Some(Poly::of_terms(terms)))
+    }
+
+    fn divide_by_steps(&self, alloc: Global, by: &Poly) -> Result<Option<Poly>, Fault>
         ensures { Answers (checked_quotient self.now by.now) result }
     {
         self.within_limits();
@@ -86,14 +116,14 @@ impl Poly {
     }
 }
 
-fn append(list: &mut Vec<Term>, t: Term) -> Result<(), NoMemory>
+pub(crate) fn append(list: &mut Vec<Term>, t: Term) -> Result<(), NoMemory>
     ensures { OnOk result (list.new.items ≡ list.old.items ++ t ∷ []) }
 {
     list.push(t)?;
     Ok(())
 }
 
-fn measure_of_terms(ts: &[Term]) -> Measure
+pub(crate) fn measure_of_terms(ts: &[Term]) -> Measure
     requires { size_of ts.now ≤ largest_norm }
     ensures { result ≡ record { count = length ts.now; norm = size_of ts.now } }
 {
@@ -118,7 +148,7 @@ fn next_term(rest: &[Term], divisor: &[Term]) -> Option<Term>
 }
 
 /// The quotient of whole numbers, where no remainder is left.
-fn whole_over(c: i128, d: i128) -> Option<i128>
+pub(crate) fn whole_over(c: i128, d: i128) -> Option<i128>
     requires nonzero { d ≡ pos 0 → ⊥ }
     requires small { unsigned_abs c ≤ largest_norm }
     ensures { result ≡ whole_over c d }

@@ -10,9 +10,15 @@
 #![tactic(auto)]
 
 mod accumulation;
+mod boxes;
+mod cell_division;
+mod cells;
 mod content;
 mod derivative;
 mod division;
+#[cfg(test)]
+mod division_tests;
+mod gathering;
 pub mod laws;
 mod measures;
 mod order;

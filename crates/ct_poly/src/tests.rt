@@ -1,5 +1,5 @@
 // Each call that takes memory once, with values worked by hand.
-use crate::{Fault, Kind, LARGEST_NORM, Monomial, NoMemory, Poly};
+use crate::{Fault, Kind, LARGEST_NORM, Monomial, Poly};
 use std::alloc::Global;
 use std::cmp::Ordering;
 use std::test::Fail;
@@ -15,7 +15,7 @@ fn falling_pair(alloc: Global) -> Result<Poly, Fault> {
 }
 
 // whether the terms are these coefficients of the monomials with these exponents of n and k
-fn is_listed(p: &Poly, terms: &[(u16, u16, i128)]) -> bool {
+pub(crate) fn is_listed(p: &Poly, terms: &[(u16, u16, i128)]) -> bool {
     let mut listed = p.terms().len() == terms.len();
     for (t, want) in p.terms().iter().zip(terms) {
         listed = listed && t.mono.exp(0) == want.0 && t.mono.exp(1) == want.1 && t.coef == want.2;
@@ -97,7 +97,7 @@ fn the_limit_is_the_last_that_fits(rt: HostRuntime) -> Result<(), Fail> {
 }
 
 // the polynomial with these coefficients of the monomials with these exponents of n and k
-fn poly_of(alloc: Global, terms: &[(u16, u16, i64)]) -> Result<Poly, Fault> {
+pub(crate) fn poly_of(alloc: Global, terms: &[(u16, u16, i64)]) -> Result<Poly, Fault> {
     let n = Poly::name(alloc, 0)?;
     let k = Poly::name(alloc, 1)?;
     let mut sum = Poly::zero(alloc);
@@ -112,97 +112,6 @@ fn poly_of(alloc: Global, terms: &[(u16, u16, i64)]) -> Result<Poly, Fault> {
         sum = sum.add(alloc, &p)?;
     }
     Ok(sum)
-}
-
-// 1 + x + .. + x^(2^doublings - 1)
-fn powers_below(alloc: Global, x: &Poly, doublings: u8) -> Result<Poly, Fault> {
-    let one = Poly::constant(alloc, 1)?;
-    let mut power = x.copy(alloc)?;
-    let mut sum = Poly::constant(alloc, 1)?;
-    for _ in 0..doublings {
-        sum = sum.mul(alloc, &power.add(alloc, &one)?)?;
-        power = power.mul(alloc, &power)?;
-    }
-    Ok(sum)
-}
-
-// whether the answer is an overflow of this kind
-fn is_overflow(answer: Result<Option<Poly>, Fault>, kind: Kind) -> bool {
-    match answer {
-        Err(fault) => fault == Fault::Overflow(kind),
-        Ok(_) => false,
-    }
-}
-
-// whether the answer is the polynomial with these terms
-fn is_quotient(answer: &Option<Poly>, terms: &[(u16, u16, i128)]) -> bool {
-    match answer {
-        Some(p) => is_listed(p, terms),
-        None => false,
-    }
-}
-
-#[test]
-fn an_exact_quotient_is_found(rt: HostRuntime) -> Result<(), Fail> {
-    let by = poly_of(rt.alloc(), &[(0, 1, 1), (0, 0, 1)])?;
-    let p = poly_of(rt.alloc(), &[(0, 2, 1), (0, 1, 3), (0, 0, 2)])?;
-    let turned = poly_of(rt.alloc(), &[(0, 2, 1), (0, 0, -1)])?;
-    let other = poly_of(rt.alloc(), &[(0, 0, 1), (0, 1, -1)])?;
-    let zero = Poly::zero(rt.alloc());
-    assert!(rt; !by.is_zero() && !other.is_zero());
-    assert!(rt; is_quotient(&p.div_exact(rt.alloc(), &by)?, &[(0, 1, 1), (0, 0, 2)]));
-    assert!(rt; is_quotient(&p.quotient(rt.alloc(), &by)?, &[(0, 1, 1), (0, 0, 2)]));
-    assert!(rt;
-        is_quotient(
-            &turned.div_exact(rt.alloc(), &other)?,
-            &[(0, 1, -1), (0, 0, -1)]
-        )
-    );
-    assert!(rt; is_quotient(&zero.div_exact(rt.alloc(), &by)?, &[]));
-    Ok(())
-}
-
-#[test]
-fn an_inexact_division_finds_nothing(rt: HostRuntime) -> Result<(), Fail> {
-    let by = poly_of(rt.alloc(), &[(0, 1, 1), (0, 0, 1)])?;
-    let four = poly_of(rt.alloc(), &[(0, 1, 4)])?;
-    let p = poly_of(rt.alloc(), &[(0, 2, 1), (0, 0, 1)])?;
-    let even = poly_of(rt.alloc(), &[(0, 2, 2), (0, 1, 2)])?;
-    assert!(rt; !by.is_zero() && !four.is_zero());
-    assert!(rt; p.div_exact(rt.alloc(), &by)?.is_none());
-    assert!(rt; even.div_exact(rt.alloc(), &four)?.is_none());
-    assert!(rt; even.quotient(rt.alloc(), &four)?.is_none());
-    Ok(())
-}
-
-#[test]
-fn a_division_overflows_by_its_numbers(rt: HostRuntime) -> Result<(), Fail> {
-    let k = Poly::name(rt.alloc(), 1)?;
-    let half = Poly::constant(rt.alloc(), 1 << 126)?;
-    let less = Poly::constant(rt.alloc(), (1 << 126) - 1)?;
-    let p = half.mul(rt.alloc(), &k)?;
-    let q = less.mul(rt.alloc(), &k)?;
-    assert!(rt; !k.is_zero());
-    assert!(rt; is_overflow(p.div_exact(rt.alloc(), &k), Kind::Number));
-    assert!(rt; p.quotient(rt.alloc(), &k)?.is_none());
-    assert!(rt; is_quotient(&q.div_exact(rt.alloc(), &k)?, &[(0, 0, (1 << 126) - 1)]));
-    Ok(())
-}
-
-#[test]
-fn a_division_overflows_by_its_terms(rt: HostRuntime) -> Result<(), Fail> {
-    let n = Poly::name(rt.alloc(), 0)?;
-    let one = Poly::constant(rt.alloc(), 1)?;
-    let rows = powers_below(rt.alloc(), &n, 10)?;
-    let columns = powers_below(rt.alloc(), &Poly::name(rt.alloc(), 1)?, 9)?;
-    let by = rows.mul(rt.alloc(), &columns)?;
-    let p = by.mul(rt.alloc(), &n)?;
-    let more = p.add(rt.alloc(), &one)?;
-    assert!(rt; !by.is_zero());
-    assert_eq!(rt; p.terms().len(), 1 << 19);
-    assert!(rt; is_quotient(&p.div_exact(rt.alloc(), &by)?, &[(1, 0, 1)]));
-    assert!(rt; is_overflow(more.div_exact(rt.alloc(), &by), Kind::Terms));
-    Ok(())
 }
 
 #[test]

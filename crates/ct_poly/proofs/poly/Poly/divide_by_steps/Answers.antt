@@ -9,7 +9,7 @@ use Rattle.ct_poly.specs.Measures.{minus}
 use Rattle.ct_poly.specs.Terms.{entries, entry, size_of, IsListOf, poly_of_terms}
 use Rattle.ct_poly.proofs.DivisionLoop.{division_start, division_more, division_stops, division_falls_here, division_found, division_fails, rules_read, listed}
 use Rattle.ct_poly.proofs.OfTerms.{list_of, poly_is}
-use Rattle.ct_poly.proofs.poly.Poly.divide.Goals as goal
+use Rattle.ct_poly.proofs.poly.Poly.divide_by_steps.Goals as goal
 
 pub measure_of_terms-divisor_measure-requires : goal.measure_of_terms-divisor_measure-requires
 measure_of_terms-divisor_measure-requires c =

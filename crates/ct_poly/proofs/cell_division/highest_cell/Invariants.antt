@@ -1,0 +1,8 @@
+use Rattle.std.proofs.Common.{◌≤◌}
+use Rattle.ct_poly.proofs.cell_division.highest_cell.Given as goal
+
+abbrev pub invariant-searching : goal.invariant-searching
+invariant-searching l = l.at ≤ l.fn.below
+
+abbrev pub decreases-searching : goal.decreases-searching
+decreases-searching l = l.at
