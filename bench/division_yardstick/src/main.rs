@@ -215,8 +215,16 @@ fn divide_in_cells(p: &[Term], f: &[Term]) -> Option<Poly> {
     Some(quotient)
 }
 
+/// The leading term of the rest over that of the divisor.
+fn next_term(rest: &[Term], f: &[Term]) -> Option<Term> {
+    let top = rest.first()?;
+    let lead = f.first()?;
+    let mono = over(&top.mono, &lead.mono)?;
+    (top.coef % lead.coef == 0).then(|| Term { mono, coef: top.coef / lead.coef })
+}
+
 fn divide(p: &[Term], f: &[Term], way: Way) -> Option<Poly> {
-    if way == Way::Cells {
+    if way == Way::Cells && next_term(p, f).is_some() {
         if let Some(quotient) = divide_in_cells(p, f) {
             return Some(quotient);
         }
@@ -229,18 +237,13 @@ fn divide_by_steps(p: &[Term], f: &[Term], copies: bool) -> Option<Poly> {
     let mut rest = p.to_vec();
     let mut quotient = Poly::new();
     let mut quotient_norm = 0u128;
-    while let Some(top) = rest.first().copied() {
-        let mono = over(&top.mono, &f[0].mono)?;
-        if top.coef % f[0].coef != 0 {
-            return None;
-        }
-        let u = Term { mono, coef: top.coef / f[0].coef };
+    while let Some(u) = next_term(&rest, f) {
         let size = u.coef.unsigned_abs();
         let made = size.saturating_mul(f_norm);
         if rest.len() + f.len() > MOST_TERMS || made > LARGEST || norm(&rest) + made > LARGEST {
             return None;
         }
-        let negative = Term { mono, coef: -u.coef };
+        let negative = Term { mono: u.mono, coef: -u.coef };
         rest = if copies {
             let copy = rest.clone();
             sum(&copy, &multiple(&negative, f))
@@ -250,7 +253,7 @@ fn divide_by_steps(p: &[Term], f: &[Term], copies: bool) -> Option<Poly> {
         quotient.push(u);
         quotient_norm += size;
     }
-    (quotient_norm <= LARGEST).then_some(quotient)
+    (rest.is_empty() && quotient_norm <= LARGEST).then_some(quotient)
 }
 
 fn gcd(a: u128, b: u128) -> u128 {
