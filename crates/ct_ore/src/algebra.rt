@@ -1,5 +1,5 @@
 // Algebras: the names, what their symbols do, and what they are for.
-ghost use Rattle.std.specs.Prelude.{◌≡◌, ◌<◌, length, Some, slice_get};
+ghost use Rattle.std.specs.Prelude.{◌≡◌, ◌<◌, ◌≤◌, length, Some, slice_get};
 ghost use Rattle.ct_algebra.specs.Names.{name_with};
 ghost use Rattle.ct_ore.specs.Naming.{action_of, actions_of, naming_of, namings_of, IsAlgebra};
 
@@ -62,6 +62,15 @@ impl Algebra {
         ensures { result ≡ length self.now }
     {
         self.names.len() as u8
+    }
+
+    /// The names, in order.
+    pub fn infos(&self) -> &[NameInfo]
+        ensures names { namings_of result.now ≡ self.now }
+        ensures algebra { IsAlgebra self.now }
+        ensures few { length result.now ≤ 6 }
+    {
+        self.names.as_slice()
     }
 
     // What the symbol of a name does; a name past the list has none.
