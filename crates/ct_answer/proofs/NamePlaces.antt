@@ -1,14 +1,16 @@
 -- The names of an algebra as the reader finds them: the first of its letters. Main lemmas `is_variable` and `is_acting`.
 use Rattle.std.proofs.Common.{◌≡◌, ◌≢◌, ℕ, zero, suc, ◌+◌, ◌<◌, Bool, true, false, List, [], ◌∷◌, length, Some, None, IsTrue, refl, ap, ◌∙◌, arith}
-use Rattle.std.specs.List.{position, position_from, list_all}
+use Rattle.std.specs.List.{position, position_from, slice_get, list_all}
+use Rattle.std.proofs.lemmas.Option.{slice_get-get_or}
 use Rattle.std.proofs.lemmas.Iterator.Adapters.{position_from-zero}
 use Rattle.ct_token.specs.Lexical as lexical
 use Rattle.ct_token.specs.Lexing as lexing
 use Rattle.ct_algebra.specs.Actions as actions
 use Rattle.ct_ore.specs.Naming.{Naming, IsNaming, EachIsNaming, IsOtherText, TextsDiffer, IsAlgebra, IsWord, are_word_bytes}
-use Rattle.ct_problem.specs.DeclaredNames.{same_action, is_wanted}
+use Rattle.ct_problem.specs.Declarations.{declared}
+use Rattle.ct_problem.specs.Names.{same_action, is_named, acts_as}
 use Rattle.ct_problem.specs.Grammar.{IsVariable, IsActing}
-use Rattle.ct_problem.proofs.Taking.{same_word, unequal_words}
+use Rattle.ct_problem.proofs.ShownSymbols.{same_word, unequal_words}
 use Rattle.ct_problem.proofs.Values.{both}
 use Rattle.ct_answer.specs.Text.{naming_at}
 
@@ -66,21 +68,20 @@ module _ (names : List Naming) (known : IsAlgebra names) (k : ℕ) (within : k <
   pub is_word : lexing.IsWord (naming_at names k).text
   is_word = word_is _ (naming_known names k known.each within).word
 
-  pub is_variable : IsVariable names (naming_at names k).text k
+  pub is_variable : IsVariable (declared names) (naming_at names k).text k
   is_variable =
       let naming = naming_known names k known.each within in
       record {
         no_shift = naming.no_shift;
         no_derivation = naming.no_derivation;
-        first = position_at (is_wanted None (naming_at names k).text) names k within (same_word (naming_at names k).text)
+        first = position_at (is_named (naming_at names k).text) names k within (same_word (naming_at names k).text)
             (λ j less. unequal_words (naming_at names k).text (naming_at names j).text (texts_differ names j k known.different less within));
       }
 
-  pub is_acting : IsActing names (naming_at names k).action (naming_at names k).text k
+  pub is_acting : IsActing (declared names) (naming_at names k).action (naming_at names k).text k
   is_acting =
-      let text = (naming_at names k).text in
-      let action = (naming_at names k).action in
-      let here : is_wanted (Some (naming_at names k).action) (naming_at names k).text (naming_at names k) ≡ true =
-      let same = same_word (naming_at names k).text in rw same (same_itself (naming_at names k).action) in
-      position_at (is_wanted (Some (naming_at names k).action) (naming_at names k).text) names k within here
-      (λ j less. let other = unequal_words (naming_at names k).text (naming_at names j).text (texts_differ names j k known.different less within) in rw other refl)
+      let found : slice_get names k ≡ Some (naming_at names k) = slice_get-get_or names k _ within in
+      record {
+        first = is_variable.first;
+        acts = rw found (same_itself (naming_at names k).action);
+      }

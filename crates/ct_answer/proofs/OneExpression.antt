@@ -1,28 +1,30 @@
 -- A text stands for one expression at most, whose value can be asked for. Main lemmas `one_expression`, `is_operator` and
 -- `is_polynomial`: the reader reads it from the tokens.
-use Rattle.std.proofs.Common.{◌≡◌, ℕ, Bool, true, false, List, [], Some, refl, sym, ap, ◌∙◌}
+use Rattle.std.proofs.Common.{◌≡◌, ℕ, Bool, true, false, List, [], Ok, refl, sym, ap, ◌∙◌}
 use Rattle.std.proofs.lemmas.List.{append-nil}
 use Rattle.ct_token.specs.Lexical.{scan_of}
 use Rattle.ct_token.proofs.TokenPlaces.{scans_are_tokens}
 use Rattle.ct_ore.specs.Naming.{Naming, IsAlgebra}
 use Rattle.ct_problem.specs.declared.expr.Expr.{Expr}
 use Rattle.ct_problem.specs.Input.{Input, Outcome}
+use Rattle.ct_problem.specs.Declarations.{declared}
 use Rattle.ct_problem.specs.Expressions.{expression}
 use Rattle.ct_problem.specs.WellFormed.{IsOperator, IsPolynomial}
 use Rattle.ct_problem.proofs.Taking.{Taken}
 use Rattle.ct_problem.proofs.TakenExpressions.{Takes-expression}
-use Rattle.ct_problem.proofs.EvaluableExpressions.{IsFor, Makes-expression}
+use Rattle.ct_problem.proofs.ExpressionKinds.{IsFor}
+use Rattle.ct_problem.proofs.EvaluableExpressions.{Makes-expression}
 use Rattle.ct_answer.specs.ReadBack.{IsSpelled}
 
 module _ (names : List Naming) (operators : Bool) (text : List ℕ) where
   -- the whole text, before anything is read
   start : Input
-  start = record { text = text; left = (scan_of text 0).tokens; names = names }
+  start = record { text = text; left = (scan_of text 0).tokens; bad = (scan_of text 0).bad }
 
-  is_read : (x : Expr) → IsSpelled names operators x text → Taken names (expression operators) start x []
+  is_read : (x : Expr) → IsSpelled names operators x text → Taken (expression (declared names) operators) start x []
   unfolding start
   is_read x spelled =
-      Takes-expression names operators x start _ [] refl (sym (append-nil _)) spelled.stands (record { no_power = refl; no_factor = refl; no_plus = refl; no_minus = refl })
+      Takes-expression (scan_of text 0).bad (declared names) operators x start _ [] refl (sym (append-nil _)) spelled.stands (record { no_divisor = refl; no_power = refl; no_factor = refl; no_plus = refl; no_minus = refl })
 
   pub one_expression : (x y : Expr) → IsSpelled names operators x text → IsSpelled names operators y text → x ≡ y
   one_expression x y first second =
@@ -30,7 +32,7 @@ module _ (names : List Naming) (operators : Bool) (text : List ℕ) where
       let two = is_read y second in
       same x y one.left two.left (sym one.reads ∙ two.reads)
     where
-      same : (x y : Expr) (i j : Input) → ◌≡◌ {A = Outcome Expr} (Some (x, i)) (Some (y, j)) → x ≡ y
+      same : (x y : Expr) (i j : Input) → ◌≡◌ {A = Outcome Expr} (Ok (x, i)) (Ok (y, j)) → x ≡ y
       same x y i j e =
           let pairs : ◌≡◌ {A = Expr × Input} (x, i) (y, j) = cc in
           ap (λ (r : Expr × Input). r.0) pairs
@@ -39,7 +41,7 @@ module _ (names : List Naming) (operators : Bool) (text : List ℕ) where
   unfolding start
   is_for x known spelled =
       let one = is_read x spelled in
-      (Makes-expression names known.few operators start one.left x (record { declared = refl; place = 0; tokens = scans_are_tokens text 0 }) one.reads).holds
+      (Makes-expression (declared names) known.few operators start one.left x (scans_are_tokens text 0) one.reads).holds
 
 pub is_operator : (names : List Naming) (text : List ℕ) (x : Expr) → IsAlgebra names → IsSpelled names true x text → IsOperator x
 is_operator names text x known spelled = (is_for names true text x known spelled).evaluable

@@ -7,6 +7,7 @@ use Rattle.ct_algebra.specs.Polynomial.{Polynomial}
 use Rattle.ct_algebra.specs.Operators.{Operator}
 use Rattle.ct_ore.specs.Naming.{Naming, IsAlgebra}
 use Rattle.ct_problem.specs.declared.expr.Expr.{Expr}
+use Rattle.ct_problem.specs.Declarations.{declared}
 use Rattle.ct_problem.specs.Lexemes.{Lexeme, Texts, one, ◌▸◌, each}
 use Rattle.ct_problem.specs.Lexemes as lexeme
 use Rattle.ct_problem.specs.Grammar.{Term, product_of, IsSum, IsFactor, IsAtom, IsNested}
@@ -31,15 +32,15 @@ grouped s o t c l = simp append_assoc refl
 module _ (names : List Naming) (known : IsAlgebra names) (depth : ℕ) where
   -- what may stand in parentheses, with them
   abbrev Inner : Expr → Texts
-  Inner = IsNested names true (suc depth)
+  Inner = IsNested (declared names) true (suc depth)
 
   Writes-nested : (e : Mono × ℤ) (es : List (Mono × ℤ)) → Each (EntryFits names true) (e ∷ es)
       → Writes true true (((40 ∷ []) ++ entries_text names true (e ∷ es)) ++ 41 ∷ []) (Inner (sum_expression (entry_expressions (e ∷ es))))
   unfolding IsNested
   Writes-nested e es fits =
-      let within : Writes false true (entries_text names true (e ∷ es)) (IsSum names true (IsNested names true depth) (sum_expression (entry_expressions (e ∷ es)))) =
-      Writes-as false true _ (Sum names known true (IsNested names true depth) (entry_expressions (e ∷ es))) _ (λ ls h. sum_is names known true (IsNested names true depth) (entry_expressions (e ∷ es)) ls h)
-      (Writes-first_entries names known true (IsNested names true depth) e es fits) in
+      let within : Writes false true (entries_text names true (e ∷ es)) (IsSum (declared names) true (IsNested (declared names) true depth) (sum_expression (entry_expressions (e ∷ es)))) =
+      Writes-as false true _ (Sum names known true (IsNested (declared names) true depth) (entry_expressions (e ∷ es))) _ (λ ls h. sum_is names known true (IsNested (declared names) true depth) (entry_expressions (e ∷ es)) ls h)
+      (Writes-first_entries names known true (IsNested (declared names) true depth) e es fits) in
       let first = Writes-joined true false true (40 ∷ []) (entries_text names true (e ∷ es)) (one (lexeme.Sign 40)) _ (Writes-sign 40 open_parenthesis_is_plain) within in
       Writes-before true _ _ (Writes-joined true true false ((40 ∷ []) ++ entries_text names true (e ∷ es)) (41 ∷ []) _ (one (lexeme.Sign 41)) first (Writes-sign 41 close_parenthesis_is_plain))
 
@@ -48,7 +49,7 @@ module _ (names : List Naming) (known : IsAlgebra names) (depth : ℕ) where
       → Writes true true ((((40 ∷ []) ++ entries_text names true (e ∷ es)) ++ 41 ∷ []) ++ later_powers names symbols)
       (ATerm names known true Inner (product_of (sum_expression (entry_expressions (e ∷ es)) ∷ power_expressions symbols)))
   Writes-parenthesized_term e es symbols fits good =
-      let factor : Writes true true (((40 ∷ []) ++ entries_text names true (e ∷ es)) ++ 41 ∷ []) (IsFactor names true Inner (sum_expression (entry_expressions (e ∷ es)))) =
+      let factor : Writes true true (((40 ∷ []) ++ entries_text names true (e ∷ es)) ++ 41 ∷ []) (IsFactor (declared names) true Inner (sum_expression (entry_expressions (e ∷ es)))) =
       Writes-as true true _ _ _ (λ ls h. IsFactor.plain (IsAtom.nested h)) (Writes-nested e es fits) in
       term_from names known true Inner (sum_expression (entry_expressions (e ∷ es))) (power_expressions symbols) _ true true
       (Writes-joined true true true _ (later_powers names symbols) _ (each (MoreFactor names known true Inner) (power_expressions symbols)) factor (Writes-later names known true Inner symbols good))
@@ -107,13 +108,13 @@ module _ (names : List Naming) (known : IsAlgebra names) (depth : ℕ) where
       let parts = joined_to_right h in
       record { front = parts.front; back = parts.back; parts = parts.parts; first = parts.first; second = each-append (MoreTerm names known true Inner) ts us parts.back parts.second }
 
-  Writes-entries : (es : List (Mono × Polynomial)) → Each (OperatorEntryFits names) es → Writes false true (operator_entries_text names es) (IsSum names true Inner (sum_expression (operator_expressions es)))
+  Writes-entries : (es : List (Mono × Polynomial)) → Each (OperatorEntryFits names) es → Writes false true (operator_entries_text names es) (IsSum (declared names) true Inner (sum_expression (operator_expressions es)))
   Writes-entries [] fits = zero_is names known true Inner
   Writes-entries (e ∷ es) fits =
       let all = Writes-joined false true true (operator_entry_text names true e) (flat_map (operator_entry_text names false) es) (Sum names known true Inner (operator_entry_expressions e)) (each (MoreTerm names known true Inner) (operator_expressions es))
       (Writes-first_product e.1.terms (symbols_in e.0) fits.0.some fits.0.entries fits.0.symbols) (Writes-more_operators es fits.1) in
       Writes-as false true _ _ _ (λ ls h. sum_is names known true Inner (operator_expressions (e ∷ es)) ls (sum-append (operator_entry_expressions e) (operator_expressions es) ls h)) all
 
-  pub Writes-operator : (p : Operator) → Each (OperatorEntryFits names) p.terms → Writes false true (operator_text names p) (IsSum names true (IsNested names true (suc depth)) (operator_expression p))
+  pub Writes-operator : (p : Operator) → Each (OperatorEntryFits names) p.terms → Writes false true (operator_text names p) (IsSum (declared names) true (IsNested (declared names) true (suc depth)) (operator_expression p))
   unfolding operator_text
   Writes-operator p fits = Writes-entries p.terms fits

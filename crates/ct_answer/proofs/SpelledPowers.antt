@@ -10,6 +10,7 @@ use Rattle.ct_mono.specs.Limits.{largest_degree, largest_norm}
 use Rattle.ct_ore.specs.Naming.{Naming, IsAlgebra}
 use Rattle.ct_problem.specs.declared.expr.Expr.{Expr}
 use Rattle.ct_problem.specs.declared.expr.Expr.TheVariants as e
+use Rattle.ct_problem.specs.Declarations.{declared}
 use Rattle.ct_problem.specs.Lexemes.{Texts, nothing, one, number, ◌▸◌, each}
 use Rattle.ct_problem.specs.Lexemes as lexeme
 use Rattle.ct_problem.specs.Grammar.{product_of, IsAtom, IsFactor, IsMoreFactor, IsTerm, symbol, IsActing}
@@ -59,16 +60,16 @@ minus_is_plain = record { high = omega arith; no_letter = refl; no_digit = refl;
 
 module _ (names : List Naming) (known : IsAlgebra names) (operators : Bool) (InParentheses : Expr → Texts) where
   abbrev pub Atom : Expr → Texts
-  Atom = IsAtom names operators InParentheses
+  Atom = IsAtom (declared names) operators InParentheses
 
   abbrev pub Factor : Expr → Texts
-  Factor = IsFactor names operators InParentheses
+  Factor = IsFactor (declared names) operators InParentheses
 
   abbrev pub MoreFactor : Expr → Texts
-  MoreFactor = IsMoreFactor names operators InParentheses
+  MoreFactor = IsMoreFactor (declared names) operators InParentheses
 
   abbrev pub ATerm : Expr → Texts
-  ATerm = IsTerm names operators InParentheses
+  ATerm = IsTerm (declared names) operators InParentheses
 
   -- ---- powers
 
@@ -84,7 +85,7 @@ module _ (names : List Naming) (known : IsAlgebra names) (operators : Bool) (InP
   Writes-symbol : (k : ℕ) → k < length names → IsTrue operators → (naming_at names k).action ≢ actions.Still → Writes false false (symbol_text (naming_at names k)) (Atom (e.Symbol k))
   Writes-symbol k within allowed moves = by (naming_at names k).action (is_acting names known k within) moves
     where
-      by : (a : actions.Action) → IsActing names a (naming_at names k).text k → a ≢ actions.Still
+      by : (a : actions.Action) → IsActing (declared names) a (naming_at names k).text k → a ≢ actions.Still
           → Writes false false (letter a ++ 91 ∷ (naming_at names k).text ++ 93 ∷ []) (Atom (e.Symbol k))
       by actions.Shift acts moves =
           Writes-as false false _ (symbol (codes "S") (naming_at names k).text) (Atom (e.Symbol k)) (λ ls h. IsAtom.shift (naming_at names k).text k allowed acts refl h)

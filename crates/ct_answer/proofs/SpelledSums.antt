@@ -11,6 +11,7 @@ use Rattle.ct_mono.specs.Limits.{largest_norm}
 use Rattle.ct_ore.specs.Naming.{Naming, IsAlgebra}
 use Rattle.ct_problem.specs.declared.expr.Expr.{Expr}
 use Rattle.ct_problem.specs.declared.expr.Expr.TheVariants as e
+use Rattle.ct_problem.specs.Declarations.{declared}
 use Rattle.ct_problem.specs.Lexemes.{Lexeme, Texts, nothing, one, optional, number, ◌▸◌, each}
 use Rattle.ct_problem.specs.Lexemes as lexeme
 use Rattle.ct_problem.specs.Signs.{plus, minus}
@@ -63,7 +64,7 @@ pub record EntryFits (names : List Naming) (operators : Bool) (e : Mono × ℤ) 
 module _ (names : List Naming) (known : IsAlgebra names) (operators : Bool) where
   module _ (InParentheses : Expr → Texts) where
     abbrev pub MoreTerm : Term → Texts
-    MoreTerm = IsMoreTerm names operators InParentheses
+    MoreTerm = IsMoreTerm (declared names) operators InParentheses
 
     abbrev pub First : Term → Texts
     First t = optional (lexeme.Sign minus) t.0 ▸ ATerm names known operators InParentheses t.1
@@ -105,21 +106,21 @@ module _ (names : List Naming) (known : IsAlgebra names) (operators : Bool) wher
     Writes-later_entries (e ∷ es) fits = Writes-more_entries (e ∷ es) fits
 
     -- a sum of terms is an EXPR
-    pub sum_is : (ts : List Term) (ls : List Lexeme) → Sum ts ls → IsSum names operators InParentheses (sum_expression ts) ls
+    pub sum_is : (ts : List Term) (ls : List Lexeme) → Sum ts ls → IsSum (declared names) operators InParentheses (sum_expression ts) ls
     sum_is [] ls h = absurd h
     sum_is (t ∷ ts) ls h = record { negative = t.0; first = t.1; more = ts; value = refl; spelled = h }
 
-    pub zero_is : Writes false true (codes "0") (IsSum names operators InParentheses (e.Whole (pos 0)))
+    pub zero_is : Writes false true (codes "0") (IsSum (declared names) operators InParentheses (e.Whole (pos 0)))
     unfolding fmt.digits product_of
     zero_is =
         Writes-as false true (codes "0") _ _ (λ ls h. record { negative = false; first = e.Whole (pos 0); more = []; value = refl; spelled = to_nothing (record { front = []; back = ls; parts = refl; first = refl; second = h }) })
         (Writes-number_alone names known operators InParentheses 0 (omega arith))
 
-    pub Writes-polynomial : (p : Polynomial) → Each (EntryFits names operators) p.terms → Writes false true (polynomial_text names p) (IsSum names operators InParentheses (polynomial_expression p))
+    pub Writes-polynomial : (p : Polynomial) → Each (EntryFits names operators) p.terms → Writes false true (polynomial_text names p) (IsSum (declared names) operators InParentheses (polynomial_expression p))
     unfolding polynomial_text
     Writes-polynomial p fits = by p.terms fits
       where
-        by : (es : List (Mono × ℤ)) → Each (EntryFits names operators) es → Writes false true (cond (length es == 0) (codes "0") (entries_text names true es)) (IsSum names operators InParentheses (sum_expression (entry_expressions es)))
+        by : (es : List (Mono × ℤ)) → Each (EntryFits names operators) es → Writes false true (cond (length es == 0) (codes "0") (entries_text names true es)) (IsSum (declared names) operators InParentheses (sum_expression (entry_expressions es)))
         by [] fits = zero_is
         by (e ∷ es) fits =
             let some : (suc (length es) == 0) ≡ false = ne_eqb (suc (length es)) 0 (λ none. omega arith) in

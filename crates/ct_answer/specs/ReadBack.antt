@@ -16,6 +16,7 @@ use Rattle.ct_mono.specs.Limits.{largest_degree, most_terms, largest_norm}
 use Rattle.ct_ore.specs.Naming.{Naming, IsAlgebra, actions_of}
 use Rattle.ct_ore.specs.Measures.{term_count, term_norm, coefficient_degree, order_of}
 use Rattle.ct_problem.specs.declared.expr.Expr.{Expr}
+use Rattle.ct_problem.specs.Declarations.{declared}
 use Rattle.ct_problem.specs.Lexemes.{lexemes}
 use Rattle.ct_problem.specs.Grammar.{IsExpression}
 use Rattle.ct_problem.specs.Value.{value_of, checked_polynomial}
@@ -42,7 +43,7 @@ pub record OperatorFits (names : List Naming) (p : Operator) : Type 0 where
 
 pub record IsSpelled (names : List Naming) (operators : Bool) (x : Expr) (text : List ℕ) : Type 0 where
   pub whole : (scan_of text 0).bad ≡ None
-  pub stands : IsExpression names operators x (lexemes text (scan_of text 0).tokens)
+  pub stands : IsExpression (declared names) operators x (lexemes text (scan_of text 0).tokens)
 
 -- what is printed of the polynomial stands for one expression, which can be evaluated and has its value
 pub record PolynomialIsRead (names : List Naming) (p : Polynomial) : Type 0 where

@@ -1,6 +1,6 @@
 -- How lexemes begin, and what may come after a rule.
 --     Opens ls                        there is a first lexeme, and it is no `-`
---     AfterFactor, AfterTerm, AfterSum   the lexemes that come after go on with no such rule
+--     AfterAtom, AfterFactor, AfterTerm, AfterSum   the lexemes that come after go on with no such rule
 use Rattle.std.proofs.Common.{◌≡◌, suc, ◌<◌, ◌≤◌, false, List, [], ◌∷◌, ◌++◌, length, refl, sym, ap, ◌∙◌, subst, arith, length-append}
 use Rattle.ct_token.specs.declared.token.Token.{Token}
 use Rattle.ct_problem.specs.Input.{Input}
@@ -55,19 +55,28 @@ length-shown i = by i.left
 
 -- ---- what may come after
 
--- no power goes on with the factor
-abbrev pub AfterFactor : Texts
-AfterFactor rest = shows_sign 94 rest ≡ false
+-- a number goes on with no `/`
+abbrev pub AfterAtom : Texts
+AfterAtom rest = shows_sign 47 rest ≡ false
+
+pub record AfterFactor (rest : List Lexeme) : Type 0 where
+  pub no_divisor : shows_sign 47 rest ≡ false
+  pub no_power : shows_sign 94 rest ≡ false
 
 pub record AfterTerm (rest : List Lexeme) : Type 0 where
+  pub no_divisor : shows_sign 47 rest ≡ false
   pub no_power : shows_sign 94 rest ≡ false
   pub no_factor : shows_sign 42 rest ≡ false
 
 pub record AfterSum (rest : List Lexeme) : Type 0 where
+  pub no_divisor : shows_sign 47 rest ≡ false
   pub no_power : shows_sign 94 rest ≡ false
   pub no_factor : shows_sign 42 rest ≡ false
   pub no_plus : shows_sign 43 rest ≡ false
   pub no_minus : shows_sign 45 rest ≡ false
 
+pub after_factor : (rest : List Lexeme) → AfterTerm rest → AfterFactor rest
+after_factor rest a = record { no_divisor = a.no_divisor; no_power = a.no_power }
+
 pub after_term : (rest : List Lexeme) → AfterSum rest → AfterTerm rest
-after_term rest a = record { no_power = a.no_power; no_factor = a.no_factor }
+after_term rest a = record { no_divisor = a.no_divisor; no_power = a.no_power; no_factor = a.no_factor }

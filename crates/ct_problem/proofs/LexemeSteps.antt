@@ -1,18 +1,18 @@
 -- What an input shows of its lexemes: the next one, and those after it.
 --     shown i                    the lexemes that are left
 --     sees-shown, sees_word-shown, shown-next    the tests of an input and its next, by the lexemes
-use Rattle.std.proofs.Common.{◌≡◌, ℕ, ◌+◌, ◌-◌, ◌*◌, ◌≤◌, ◌==◌, min, fold, Bool, true, false, List, [], ◌∷◌, length, take, drop, Some, refl, sym, ap, ◌∙◌, arith, rules, tests, nat_le}
+use Rattle.std.proofs.Common.{◌≡◌, ℕ, ◌+◌, ◌-◌, ◌*◌, ◌≤◌, ◌==◌, min, fold, Bool, false, List, [], ◌∷◌, Some, refl, sym, ap, ◌∙◌, arith}
 use Rattle.std.specs.Str.{bytes_eq}
-use Rattle.std.proofs.lemmas.List.{take_all, drop_all}
 use Rattle.ct_token.specs.declared.token.Symbol.{Symbol}
 use Rattle.ct_token.specs.declared.token.Symbol.TheVariants as symbol
 use Rattle.ct_token.specs.declared.token.Token.{Token}
 use Rattle.ct_token.specs.Lexing.{slice}
-use Rattle.ct_problem.specs.Input.{Input, next, tail, is_sign, is_word, sees, sees_word, slice_of, spelling, spelling_in}
+use Rattle.ct_problem.specs.Input.{Input, next, tail, is_sign, is_word, sees, sees_word, spelling, spelling_in}
 use Rattle.ct_problem.specs.Input as input
 use Rattle.ct_problem.specs.Lexemes.{Lexeme, Word, Number, Sign, Dots, LineEnd, lexeme_of, lexemes, decimal}
 use Rattle.ct_problem.specs.Number.{value_of}
 use Rattle.ct_mono.specs.Limits.{largest_norm}
+use Rattle.ct_problem.proofs.Slices.{slice_of-slice}
 
 abbrev pub shown : Input → List Lexeme
 shown i = lexemes i.text i.left
@@ -36,32 +36,6 @@ shows_word w (LineEnd ∷ ls) = false
 abbrev pub after_first : List Lexeme → List Lexeme
 after_first [] = []
 after_first (l ∷ ls) = ls
-
-take_least : (n : ℕ) (xs : List ℕ) → take (min n (length xs)) xs ≡ take n xs
-take_least n xs = by (nat_le n (length xs)) refl
-  where
-    by : (fits : Bool) → nat_le n (length xs) ≡ fits → take (min n (length xs)) xs ≡ take n xs
-    by true e = let least : min n (length xs) ≡ n = first_of (search (rules, tests), grind (arith, tests)) in ap (λ (k : ℕ). take k xs) least
-    by false e =
-        let least : min n (length xs) ≡ length xs = first_of (search (rules, tests), grind (arith, tests)) in
-        let less : length xs ≤ n = first_of (search (rules, tests), grind (arith, tests)) in
-        let same : length xs ≤ length xs = omega arith in
-        ap (λ (k : ℕ). take k xs) least ∙ take_all (length xs) xs same ∙ sym (take_all n xs less)
-
-drop_least : (n : ℕ) (xs : List ℕ) → drop (min n (length xs)) xs ≡ drop n xs
-drop_least n xs = by (nat_le n (length xs)) refl
-  where
-    by : (fits : Bool) → nat_le n (length xs) ≡ fits → drop (min n (length xs)) xs ≡ drop n xs
-    by true e = let least : min n (length xs) ≡ n = first_of (search (rules, tests), grind (arith, tests)) in ap (λ (k : ℕ). drop k xs) least
-    by false e =
-        let least : min n (length xs) ≡ length xs = first_of (search (rules, tests), grind (arith, tests)) in
-        let less : length xs ≤ n = first_of (search (rules, tests), grind (arith, tests)) in
-        let same : length xs ≤ length xs = omega arith in
-        ap (λ (k : ℕ). drop k xs) least ∙ drop_all (length xs) xs same ∙ sym (drop_all n xs less)
-
-pub slice_of-slice : (from to : ℕ) (text : List ℕ) → slice_of from to text ≡ slice from to text
-unfolding slice_of
-slice_of-slice from to text = rw (drop_least from text) (take_least (to - from) (drop from text))
 
 sign_of : (s : ℕ) (found : Symbol) (bytes : List ℕ) (ls : List Lexeme) → is_sign s (Some found) ≡ shows_sign s (lexeme_of found bytes ∷ ls)
 sign_of s symbol.Word bytes ls = refl

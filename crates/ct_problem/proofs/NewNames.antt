@@ -1,6 +1,6 @@
--- What is known of a text that a name may have: it is a word, since tokens are spelled as their symbols say, and differs from
--- the texts before it. Main lemma `is_new_gives`.
-use Rattle.std.proofs.Common.{◌≡◌, ◌≢◌, ℕ, suc, ◌+◌, ◌<◌, ◌||◌, not, Bool, true, false, cond, List, [], ◌∷◌, length, Option, Some, None, IsTrue, nat_lt, nat_le, refl, sym, ◌∙◌, subst, arith, rules, tests, codes}
+-- What is known of a text that is declared: it is a word, since tokens are spelled as their symbols say, and differs from the
+-- texts before it. Main lemma `Makes-new_name`.
+use Rattle.std.proofs.Common.{◌≡◌, ◌≢◌, ℕ, suc, ◌+◌, ◌<◌, ◌||◌, not, Bool, true, false, cond, List, [], ◌∷◌, length, Option, Some, None, Ok, IsTrue, nat_lt, refl, sym, ◌∙◌, subst, arith, rules, tests, codes}
 use Rattle.std.specs.List.{position, prefix_len, list_all}
 use Rattle.std.specs.Option.{is_none}
 use Rattle.std.specs.Str.{bytes_eq}
@@ -11,35 +11,33 @@ use Rattle.ct_token.specs.declared.token.Symbol.TheVariants.{Word, Number, Sign,
 use Rattle.ct_token.specs.declared.token.Token.{Token}
 use Rattle.ct_token.specs.Lexical as lexical
 use Rattle.ct_token.specs.Lexing as lexing
-use Rattle.ct_token.specs.Lexing.{AreTokens, IsToken, slice}
+use Rattle.ct_token.specs.Lexing.{slice}
 use Rattle.ct_ore.specs.Naming.{Naming, IsWord, are_word_bytes, IsOtherText}
-use Rattle.ct_problem.specs.Input.{symbol_of, spelling_in, slice_of, is_wanted}
-use Rattle.ct_problem.specs.Declarations.{is_new, is_word_symbol}
-use Rattle.ct_problem.proofs.Values.{both}
-use Rattle.ct_problem.proofs.LexemeSteps.{slice_of-slice}
+use Rattle.ct_problem.specs.declared.fault.BadKind.TheVariants.{NameTooLong, DuplicateName}
+use Rattle.ct_problem.specs.Cursor.{IsCursor}
+use Rattle.ct_problem.specs.Input.{◌>>=◌, ◌>>◌, peek, skip, pure, symbol, symbol_of, spelling, spelling_in}
+use Rattle.ct_problem.specs.Declarations.{new_name, spelled_word}
+use Rattle.ct_problem.specs.Names.{Names, is_named, is_new, is_unknown, is_letter_of_symbol, known, known_by}
+use Rattle.ct_problem.proofs.Cursors.{both_pass}
+use Rattle.ct_problem.proofs.Slices.{slice_of-slice}
+use Rattle.ct_problem.proofs.Steps.{Made, Makes, Makes-pure, Makes-unless, Makes-bind, Makes-then, Makes-skip}
 
 -- ---- words
 
 word_bytes : (bs : List ℕ) → IsTrue (list_all lexical.is_word_byte bs) → IsTrue (are_word_bytes bs)
 word_bytes [] h = h
-word_bytes (b ∷ bs) h = let parts = both (lexical.is_word_byte b) (list_all lexical.is_word_byte bs) h in rw (parts.0) (word_bytes bs parts.1)
+word_bytes (b ∷ bs) h = let parts = both_pass (lexical.is_word_byte b) (list_all lexical.is_word_byte bs) h in rw (parts.0) (word_bytes bs parts.1)
 
 word_of : (bs : List ℕ) → lexing.IsWord bs → IsWord bs
 word_of [] h = h
 word_of (b ∷ bs) h = rw (h.0) (word_bytes bs h.1)
 
-pub spelled_word : (text : List ℕ) (place : ℕ) (left : List Token) → AreTokens text place left → is_word_symbol (symbol_of left) ≡ true → IsWord (spelling_in text left)
-spelled_word text place [] tokens word = absurd (false≢true word)
-spelled_word text place (t ∷ ts) tokens word = by t.symbol refl word
-  where
-    by : (s : Symbol) → t.symbol ≡ s → is_word_symbol (Some s) ≡ true → IsWord (slice_of t.from t.to text)
-    by Word e h =
-        let spelled : lexing.IsWord (slice t.from t.to text) = subst (λ (s : Symbol). lexing.Spells s (slice t.from t.to text)) e tokens.0.spelled in
-        rw (slice_of-slice t.from t.to text) (word_of _ spelled)
-    by Number e h = absurd (false≢true h)
-    by (Sign s) e h = absurd (false≢true h)
-    by Dots e h = absurd (false≢true h)
-    by LineEnd e h = absurd (false≢true h)
+word_is : (text : List ℕ) (left : List Token) → IsCursor text left → symbol_of left ≡ Some Word → IsWord (spelling_in text left)
+word_is text [] tokens e = cc
+word_is text (t ∷ ts) tokens e =
+    let word : t.symbol ≡ Word = cc in
+    let spelled : lexing.IsWord (slice t.from t.to text) = subst (λ (s : Symbol). lexing.Spells s (slice t.from t.to text)) word tokens.0.spelled in
+    rw (slice_of-slice t.from t.to text) (word_of _ spelled)
 
 -- ---- new texts
 
@@ -62,10 +60,10 @@ first_not test n ns e = by (test n) refl (nat_lt (prefix_len (λ m. not (test m)
         let more : nat_lt (1 + prefix_len (λ m. not (test m)) ns) (suc (length ns)) ≡ true = first_of (search (rules, tests), grind (arith, tests)) in
         absurd (false≢true (rw more at none))
 
-other_text : (text : List ℕ) (found : List Naming) → is_none (position (is_wanted None text) found) ≡ true → IsOtherText text found
+other_text : (text : List ℕ) (found : List Naming) → is_none (position (is_named text) found) ≡ true → IsOtherText text found
 other_text text [] none = tt
 other_text text (n ∷ ns) none =
-    let parts = first_not (is_wanted None text) n ns none in
+    let parts = first_not (is_named text) n ns none in
     (λ same. unequal text n.text parts.0 (sym same), other_text text ns parts.1)
 
 -- what is known of a new text
@@ -80,10 +78,46 @@ neither true c h = absurd (false≢true h)
 neither false true h = absurd (false≢true h)
 neither false false h = (refl, refl)
 
-pub is_new_gives : (text : List ℕ) (found : List Naming) → IsWord text → is_new text found ≡ true → IsNew found text
-unfolding is_new
-is_new_gives text found word e =
-    let long = both (nat_le (length text) 32) _ e in
-    let parts = both (not (bytes_eq text (codes "S") || bytes_eq text (codes "D"))) _ long.1 in
+no_variable : (o p : Option ℕ) → IsTrue (is_unknown (known_by o p)) → is_none o ≡ true
+no_variable None p h = refl
+no_variable (Some at) p h = absurd (false≢true h)
+
+is_new_gives : (text : List ℕ) (names : Names) → IsWord text → IsTrue (is_new text names) → IsNew names.variables text
+unfolding is_new known
+is_new_gives text names word e =
+    let parts = both_pass (not (is_letter_of_symbol text)) (is_unknown (known text names)) e in
     let unlike = neither (bytes_eq text (codes "S")) (bytes_eq text (codes "D")) parts.0 in
-    record { word = word; no_shift = unequal text (codes "S") unlike.0; no_derivation = unequal text (codes "D") unlike.1; other = other_text text found parts.1 }
+    record {
+      word = word;
+      no_shift = unequal text (codes "S") unlike.0;
+      no_derivation = unequal text (codes "D") unlike.1;
+      other = other_text text names.variables (no_variable (position (is_named text) names.variables) (position (bytes_eq text) names.lets) parts.1);
+    }
+
+-- ---- the rule
+
+Makes-spelled : Makes (peek >>= spelled_word) IsWord
+Makes-spelled i j x at e = by (symbol i) refl e
+  where
+    by : (o : Option Symbol) → symbol i ≡ o → spelled_word o i ≡ Ok (x, j) → Made IsWord x j
+    by (Some Word) s h = Makes-pure IsWord (spelling i) (word_is i.text i.left at s) i j x at h
+    by (Some Number) s h = cc
+    by (Some (Sign sign)) s h = cc
+    by (Some Dots) s h = cc
+    by (Some LineEnd) s h = cc
+    by None s h = cc
+
+pub not_false : (b : Bool) → not b ≡ false → b ≡ true
+not_false true h = refl
+not_false false h = absurd (false≢true (sym h))
+
+pub Makes-new_name : (names : Names) → Makes (new_name names) (IsNew names.variables)
+unfolding new_name
+Makes-new_name names =
+    Makes-bind IsWord P (peek >>= spelled_word) _ Makes-spelled (λ text word.
+    Makes-unless P (nat_lt 32 (length text)) NameTooLong _ (λ _.
+    Makes-unless P (not (is_new text names)) DuplicateName (skip >> pure text) (λ new.
+    Makes-then P skip (pure text) Makes-skip (Makes-pure P text (is_new_gives text names word (not_false (is_new text names) new))))))
+  where
+    P : List ℕ → Type 0
+    P = IsNew names.variables

@@ -1,25 +1,69 @@
--- What is read as the lines of names is spelled so. Main lemma `Spells-names`.
-use Rattle.std.proofs.Common.{◌≡◌, ℕ, zero, suc, ◌≤◌, Bool, true, false, cond, List, [], ◌∷◌, ◌++◌, length, Option, Some, None, IsTrue, refl, sym, ◌∙◌, subst, arith, codes}
+-- What is read as the lines of names is spelled so. Main lemma `Goes-declarations`.
+use Rattle.std.proofs.Common.{◌≡◌, ℕ, zero, suc, Bool, true, false, not, cond, List, [], ◌∷◌, ◌++◌, length, nat_lt, Option, Some, None, Ok, refl, sym, ap, ◌∙◌, subst, codes, ltb-false}
 use Rattle.std.proofs.lemmas.Bool.{false≢true}
 use Rattle.std.proofs.lemmas.List.{append_assoc, append-nil}
 use Rattle.ct_token.specs.declared.token.Symbol.{Symbol}
 use Rattle.ct_token.specs.declared.token.Symbol.TheVariants as symbol
 use Rattle.ct_algebra.specs.Actions.{Action, Shift, Derive, Still}
 use Rattle.ct_ore.specs.Naming.{Naming}
+use Rattle.ct_problem.specs.declared.fault.BadKind.TheVariants.{TooMany, Syntax, NameTooLong, DuplicateName}
 use Rattle.ct_problem.specs.declared.reading.declarations.NameLine.{NameLine}
 use Rattle.ct_problem.specs.declared.reading.declarations.NameLine.TheVariants.{Free, Sum, Int, Param}
-use Rattle.ct_problem.specs.Input.{Input, Outcome, Parser, ◌>>=◌, ◌>>◌, and_then, pure, refuse, skip, next, eat_word, expect_word, line_end, spelling, sees_word}
+use Rattle.ct_problem.specs.Input.{Input, Outcome, Parser, ◌>>=◌, ◌>>◌, and_then, pure, peek, skip, next, eat_word, expect_word, line_end, spelling, sees_word}
 use Rattle.ct_problem.specs.Input as input
-use Rattle.ct_problem.specs.Declarations.{name_line, is_word_symbol, is_new, is_new_name, free_action, action_of_line, role_of_line, declaration, declarations_by, declarations_from, name_lines, declarations, is_algebra}
-use Rattle.ct_problem.specs.Lines as read
-use Rattle.ct_problem.specs.FirstForm as form
-use Rattle.ct_problem.specs.Lexemes.{Lexeme, Word, LineEnd, Texts, one, optional, ◌▸◌}
-use Rattle.ct_problem.specs.GrammarLines as grammar
-use Rattle.ct_problem.proofs.Values.{both}
-use Rattle.ct_problem.proofs.LexemeSteps.{shown, sees_word-shown, shown-symbol}
-use Rattle.ct_problem.proofs.JoinedTexts.{joined, nothing_joined, replaced}
-use Rattle.ct_problem.proofs.Spelling.{Spelled, Spells, Continues, Spelled-then, after_taken, shows_word-gives, Continues-pure, Continues-refuse, Continues-bind, Spells-pure, Spells-bind, Spells-eat_word, Spells-expect_word, Spells-line_end}
-use Rattle.ct_problem.proofs.SpelledLines.{Spells-header}
+use Rattle.ct_problem.specs.Declarations.{name_line, spelled_word, new_name, free_action, action_of_line, role_of_line, is_full, declared, declaration, declarations_by, full_by, declarations_from, some_names, declarations}
+use Rattle.ct_problem.specs.Names.{Names, is_new}
+use Rattle.ct_problem.specs.Number.{unless}
+use Rattle.ct_problem.specs.Lexemes.{Lexeme, Word, LineEnd, Texts, nothing, one, optional, ◌▸◌}
+use Rattle.ct_problem.specs.GrammarLets as lets
+use Rattle.ct_problem.specs.GrammarLets.{IsDeclarable}
+use Rattle.ct_problem.specs.GrammarProblem as grammar
+use Rattle.ct_problem.proofs.Following.{Follows-next, Follows-then}
+use Rattle.ct_problem.proofs.JoinedTexts.{replaced, nothing_joined}
+use Rattle.ct_problem.proofs.LexemeSteps.{shown, after_first, sees_word-shown, shown-symbol}
+use Rattle.ct_problem.proofs.NewNames.{not_false}
+use Rattle.ct_problem.proofs.Spelling.{Spells, Continues, Spells-bind, Spells-eat_word, Spells-expect_word, Continues-pure, Continues-bind, taken, after_taken, moved, shows_word-gives}
+use Rattle.ct_problem.proofs.SpelledSteps.{first_read, test_failed}
+use Rattle.ct_problem.proofs.SpelledRuns.{Going, Goes, Goes-pure, Goes-fault, Goes-unless, Goes-seen, Goes-as, Goes-bind, Goes-first, Goes-then, Goes-line_end, by_only}
+
+-- ---- a name that is declared
+
+-- a word that comes next, and stays
+record ComingWord (i j : Input) (text : List ℕ) : Type 0 where
+  stays : i ≡ j
+  is_word : input.symbol i ≡ Some symbol.Word
+  letters : spelling i ≡ text
+
+word_of : (i j : Input) (text : List ℕ) (o : Option Symbol) → input.symbol i ≡ o → spelled_word o i ≡ Ok (text, j) → ComingWord i j text
+word_of i j text (Some symbol.Word) s h =
+    let pairs : ◌≡◌ {A = List ℕ × Input} (spelling i, i) (text, j) = cc in
+    record { stays = ap (λ (r : List ℕ × Input). r.1) pairs; is_word = s; letters = ap (λ (r : List ℕ × Input). r.0) pairs }
+word_of i j text (Some symbol.Number) s h = cc
+word_of i j text (Some (symbol.Sign n)) s h = cc
+word_of i j text (Some symbol.Dots) s h = cc
+word_of i j text (Some symbol.LineEnd) s h = cc
+word_of i j text None s h = cc
+
+pub Spells-new_name : (names : Names) → Spells (new_name names) (lets.declared names)
+unfolding new_name
+Spells-new_name names i j x e =
+    let r = first_read (peek >>= spelled_word) (λ text. unless_long text) i j x e in
+    let w = word_of i r.left r.value (input.symbol i) refl r.first in
+    let long = test_failed (nat_lt 32 (length r.value)) NameTooLong (unless_old r.value) r.left j x r.second in
+    let old = test_failed (not (is_new r.value names)) DuplicateName (skip >> pure r.value) r.left j x long.1 in
+    let fits : IsDeclarable names r.value = record { short = ltb-false 32 (length r.value) long.0; other = not_false (is_new r.value names) old.0 } in
+    let here : (skip >> pure r.value) i ≡ Ok (x, j) = subst (λ (k : Input). (skip >> pure r.value) k ≡ Ok (x, j)) (sym w.stays) old.1 in
+    let shows : shown i ≡ Word r.value ∷ after_first (shown i) = shown-symbol i symbol.Word w.is_word ∙ ap (λ (text : List ℕ). Word text ∷ after_first (shown i)) w.letters in
+    let s = taken (Word r.value) i shows in
+    moved (lets.declared names) i r.value x (next i) j here (record { used = s.used; parts = s.parts; spells = (fits, s.spells); follows = s.follows })
+  where
+    unless_old : List ℕ → Parser (List ℕ)
+    unless_old text = unless (not (is_new text names)) DuplicateName >> (skip >> pure text)
+
+    unless_long : List ℕ → Parser (List ℕ)
+    unless_long text = unless (nat_lt 32 (length text)) NameTooLong >> unless_old text
+
+-- ---- a name line
 
 -- the word that begins a name line
 abbrev pub key_of : NameLine → List ℕ
@@ -40,132 +84,107 @@ begins_with i line h = by (sees_word (codes "free") i) refl (sees_word (codes "s
     by false f false es false en true ep line h = let same : Param ≡ line = cc in subst (λ (l : NameLine). sees_word (key_of l) i ≡ true) same ep
     by false f false es false en false ep line h = cc
 
-word_symbol : (o : Option Symbol) → is_word_symbol o ≡ true → o ≡ Some symbol.Word
-word_symbol (Some symbol.Word) h = refl
-word_symbol (Some symbol.Number) h = absurd (false≢true h)
-word_symbol (Some (symbol.Sign s)) h = absurd (false≢true h)
-word_symbol (Some symbol.Dots) h = absurd (false≢true h)
-word_symbol (Some symbol.LineEnd) h = absurd (false≢true h)
-word_symbol None h = absurd (false≢true h)
+-- the last word of a `free` line
+FreeAction : Action → Texts
+FreeAction Shift = one (Word (codes "shift"))
+FreeAction Derive = one (Word (codes "diff"))
+FreeAction Still = lets.none
 
-module _ (names : List Naming) where
-  -- the last word of a `free` line
-  FreeAction : Action → Texts
-  FreeAction Shift = one (Word (codes "shift"))
-  FreeAction Derive = one (Word (codes "diff"))
-  FreeAction Still = grammar.none
+Spells-free_action : Spells free_action FreeAction
+unfolding free_action FreeAction
+Spells-free_action = Spells-bind (optional (Word (codes "shift"))) FreeAction (eat_word (codes "shift")) _ (Spells-eat_word (codes "shift")) by
+  where
+    by : (is_shift : Bool) → Continues (optional (Word (codes "shift")) is_shift) (cond is_shift (pure Shift) (expect_word (codes "diff") >> pure Derive)) FreeAction
+    by true = Continues-pure FreeAction Shift (λ ls h. h)
+    by false =
+        Continues-bind (λ (_ : Unit {0}). one (Word (codes "diff"))) FreeAction (expect_word (codes "diff")) _ (Spells-expect_word (codes "diff")) (λ _.
+        Continues-pure FreeAction Derive (λ ls h. nothing_joined h))
 
-  Spells-free_action : Spells names free_action FreeAction
-  unfolding free_action FreeAction
-  Spells-free_action = Spells-bind names (optional (Word (codes "shift"))) FreeAction (eat_word (codes "shift")) _ (Spells-eat_word names (codes "shift")) by
+-- the line of this name
+Line : List Naming → Naming → Texts
+Line found n = grammar.name_line found n.action n.role n.text
+
+module _ (found : List Naming) (text : List ℕ) where
+  Head : NameLine → Texts
+  Head line = one (Word (key_of line)) ▸ lets.declared (declared found) text
+
+  ended : (line : NameLine) (D : Texts) (action : Action) → ((ls : List Lexeme) → (D ▸ one LineEnd) ls → Line found (record { text = text; action = action; role = role_of_line line }) ls)
+      → Goes D (line_end >> pure (record { text = text; action = action; role = role_of_line line })) (Line found)
+  ended line D action h =
+      Goes-bind D (λ (_ : Unit {0}). one LineEnd) (Line found) line_end (λ _. pure (record { text = text; action = action; role = role_of_line line })) Goes-line_end (λ _.
+      Goes-pure (D ▸ one LineEnd) (Line found) (record { text = text; action = action; role = role_of_line line }) h)
+
+  after_text : (line : NameLine) → Goes (Head line) (action_of_line line >>= (λ action. line_end >> pure (record { text = text; action = action; role = role_of_line line }))) (Line found)
+  unfolding FreeAction Head Line
+  after_text Free = Goes-then (Head Free) FreeAction (Line found) free_action _ Spells-free_action by
     where
-      by : (is_shift : Bool) → Continues names (optional (Word (codes "shift")) is_shift) (cond is_shift (pure Shift) (expect_word (codes "diff") >> pure Derive)) FreeAction
-      by true = Continues-pure names FreeAction Shift (λ ls h. h)
-      by false =
-          Continues-bind names (λ (_ : Unit {0}). one (Word (codes "diff"))) FreeAction (expect_word (codes "diff")) _ (Spells-expect_word names (codes "diff")) (λ _.
-          Continues-pure names FreeAction Derive (λ ls h. nothing_joined h))
+      by : (action : Action) → Goes (Head Free ▸ FreeAction action) (line_end >> pure (record { text = text; action = action; role = role_of_line Free })) (Line found)
+      by Shift = ended Free (Head Free ▸ FreeAction Shift) Shift (λ ls h. h)
+      by Derive = ended Free (Head Free ▸ FreeAction Derive) Derive (λ ls h. h)
+      by Still = ended Free (Head Free ▸ FreeAction Still) Still (λ ls h. absurd h.first.second)
+  after_text Sum = ended Sum (Head Sum) Shift (λ ls h. h)
+  after_text Int = ended Int (Head Int) Derive (λ ls h. h)
+  after_text Param = ended Param (Head Param) Still (λ ls h. h)
 
-  module _ (found : List Naming) (text : List ℕ) (new : IsTrue (is_new text found)) where
-    after_text : (line : NameLine) → Continues names (one (Word (key_of line)) ▸ one (Word text)) (action_of_line line >>= (λ action. line_end >> pure (record { text = text; action = action; role = role_of_line line }))) (grammar.declaration found)
-    unfolding FreeAction
-    after_text Free =
-        Continues-bind names FreeAction (grammar.declaration found) free_action _ Spells-free_action by
-      where
-        by : (action : Action) → Continues names (one (Word (codes "free")) ▸ one (Word text) ▸ FreeAction action) (line_end >> pure (record { text = text; action = action; role = role_of_line Free })) (grammar.declaration found)
-        by Shift =
-            Continues-bind names (λ (_ : Unit {0}). one LineEnd) (grammar.declaration found) line_end _ (Spells-line_end names) (λ _.
-            Continues-pure names (grammar.declaration found) (record { text = text; action = Shift; role = role_of_line Free }) (λ ls h. (new, h)))
-        by Derive =
-            Continues-bind names (λ (_ : Unit {0}). one LineEnd) (grammar.declaration found) line_end _ (Spells-line_end names) (λ _.
-            Continues-pure names (grammar.declaration found) (record { text = text; action = Derive; role = role_of_line Free }) (λ ls h. (new, h)))
-        by Still = λ i j x before d here e. absurd d.second
-    after_text Sum =
-        Continues-bind names (λ (_ : Unit {0}). one LineEnd) (grammar.declaration found) line_end (λ _. pure (record { text = text; action = Shift; role = role_of_line Sum })) (Spells-line_end names) (λ _.
-        Continues-pure names (grammar.declaration found) (record { text = text; action = Shift; role = role_of_line Sum }) (λ ls h. (new, h)))
-    after_text Int =
-        Continues-bind names (λ (_ : Unit {0}). one LineEnd) (grammar.declaration found) line_end (λ _. pure (record { text = text; action = Derive; role = role_of_line Int })) (Spells-line_end names) (λ _.
-        Continues-pure names (grammar.declaration found) (record { text = text; action = Derive; role = role_of_line Int }) (λ ls h. (new, h)))
-    after_text Param =
-        Continues-bind names (λ (_ : Unit {0}). one LineEnd) (grammar.declaration found) line_end (λ _. pure (record { text = text; action = Still; role = role_of_line Param })) (Spells-line_end names) (λ _.
-        Continues-pure names (grammar.declaration found) (record { text = text; action = Still; role = role_of_line Param }) (λ ls h. (new, h)))
+module _ (found : List Naming) where
+  after_key : (line : NameLine) → Goes (one (Word (key_of line))) (new_name (declared found) >>= (λ text. action_of_line line >>= (λ action. line_end >> pure (record { text = text; action = action; role = role_of_line line })))) (Line found)
+  unfolding Head
+  after_key line = Goes-then (one (Word (key_of line))) (lets.declared (declared found)) (Line found) (new_name (declared found)) _ (Spells-new_name (declared found)) (λ text. after_text found text line)
 
-  declared_is : (line : NameLine) (found : List Naming) (i j : Input) (n : Naming) → i.names ≡ names → sees_word (key_of line) i ≡ true → declaration line found i ≡ Some (n, j) → Spelled names (grammar.declaration found n) i j
+  -- a name line, where its first word comes next
+  declared_is : (line : NameLine) (i j : Input) (n : Naming) → name_line i ≡ Some line → declaration line found i ≡ Ok (n, j) → Going nothing (Line found n) i j
   unfolding declaration
-  declared_is line found i j n here begins h = by (is_new_name found (next i)) refl h
-    where
-      by : (new : Bool) → is_new_name found (next i) ≡ new
-          → and_then (cond {A = Outcome (List ℕ)} new (Some (spelling (next i), next i)) None) (λ text. skip >> (action_of_line line >>= (λ action. line_end >> pure (record { text = text; action = action; role = role_of_line line })))) ≡ Some (n, j)
-          → Spelled names (grammar.declaration found n) i j
-      by false new h = cc
-      by true new h =
-          let parts = both (is_word_symbol (input.symbol (next i))) (is_new (spelling (next i)) found) new in
-          let word = word_symbol (input.symbol (next i)) parts.0 in
-          let text = spelling (next i) in
-          let key = key_of line in
-          let head = shows_word-gives names key (shown i) (sym (sees_word-shown key i) ∙ begins) in
-          after_taken names (Word key) (grammar.declaration found n) i j head
-          (after_taken names (Word text) (λ used. grammar.declaration found n (Word key ∷ used)) (next i) j (shown-symbol (next i) symbol.Word word)
-          (after_text found text parts.1 line (next (next i)) j n (Word key ∷ Word text ∷ []) (joined (Word key ∷ []) (Word text ∷ []) refl refl) here h))
+  declared_is line i j n begins h =
+      let rest = test_failed (is_full line found) TooMany _ i j n h in
+      let key = key_of line in
+      let head = shows_word-gives key (shown i) (sym (sees_word-shown key i) ∙ begins_with i line begins) in
+      let g = after_key line (next i) j n rest.1 in
+      record {
+        follows = Follows-then i (next i) j (Follows-next i) g.follows;
+        spelled = λ before none left.
+            let t = after_taken (Word key) (Line found n) i j head (g.spelled (Word key ∷ []) refl left) in
+            record { used = t.used; parts = t.parts; spells = subst (λ (ls : List Lexeme). Line found n (ls ++ t.used)) (sym none) t.spells; follows = t.follows };
+      }
 
-  -- names after those that were found before
-  record MoreNames (room : ℕ) (found ns : List Naming) (ls : List Lexeme) : Type 0 where
-    more : List Naming
-    value : ns ≡ found ++ more
-    few : length more ≤ room
-    spelled : grammar.declarations found more ls
+-- ---- the lines
 
-  one_name : (n : ℕ) (found : List Naming) → ((naming : Naming) → Spells names (declarations_from n (found ++ naming ∷ [])) (MoreNames n (found ++ naming ∷ []))) → Spells names (declarations_from (suc n) found) (MoreNames (suc n) found)
-  unfolding declarations_from
-  one_name n found others i j ns here h = by (name_line i) refl h
-    where
-      step : (line : NameLine) → sees_word (key_of line) i ≡ true → (o : Outcome Naming) → declaration line found i ≡ o
-          → and_then o (λ naming. declarations_from n (found ++ naming ∷ [])) ≡ Some (ns, j) → Spelled names (MoreNames (suc n) found ns) i j
-      step line begins None e h = cc
-      step line begins (Some r) e h =
-          let s = declared_is line found i r.1 r.0 here begins e in
-          let t = others r.0 r.1 j ns s.declared h in
-          let small = t.spells.few in
-          Spelled-then names (grammar.declaration found r.0) (MoreNames (suc n) found ns) i r.1 j s (record {
-            used = t.used;
-            parts = t.parts;
-            spells = record {
-              more = r.0 ∷ t.spells.more;
-              value = t.spells.value ∙ append_assoc found (r.0 ∷ []) t.spells.more;
-              few = omega (arith, small);
-              spelled = joined s.used t.used s.spells t.spells.spelled;
-            };
-            declared = t.declared;
-          })
+-- names after those that were found before
+record MoreNames (found ns : List Naming) (ls : List Lexeme) : Type 0 where
+  more : List Naming
+  value : ns ≡ found ++ more
+  spelled : grammar.name_lines found more ls
 
-      by : (o : Option NameLine) → name_line i ≡ o → declarations_by (λ line. declaration line found >>= (λ naming. declarations_from n (found ++ naming ∷ []))) found o i ≡ Some (ns, j) → Spelled names (MoreNames (suc n) found ns) i j
-      by None e h = Spells-pure names (MoreNames (suc n) found) found (record { more = []; value = sym (append-nil found); few = omega arith; spelled = refl }) i j ns here h
-      by (Some line) e h = step line (begins_with i line e) (declaration line found i) refl h
+no_name : (found : List Naming) (ls : List Lexeme) → nothing ls → MoreNames found found ls
+no_name found ls none = record { more = []; value = sym (append-nil found); spelled = none }
 
-  Spells-declarations_from : (n : ℕ) (found : List Naming) → Spells names (declarations_from n found) (MoreNames n found)
-  unfolding declarations_from
-  Spells-declarations_from zero found = Spells-pure names (MoreNames 0 found) found (record { more = []; value = sym (append-nil found); few = omega arith; spelled = refl })
-  Spells-declarations_from (suc n) found = one_name n found (λ naming. Spells-declarations_from n (found ++ naming ∷ []))
+full_goes : (found : List Naming) (o : Option NameLine) → Goes nothing (full_by found o) (MoreNames found)
+full_goes found None = Goes-pure nothing (MoreNames found) found (no_name found)
+full_goes found (Some line) = Goes-unless nothing (MoreNames found) true TooMany (pure found) (λ h. absurd (false≢true (sym h)))
 
-  pub record Names (ns : List Naming) (ls : List Lexeme) : Type 0 where
-    pub few : length ns ≤ 6
-    pub algebra : IsTrue (is_algebra ns)
-    pub spelled : (grammar.header (codes "problem") ▸ grammar.declarations [] ns) ls
+one_name : (n : ℕ) (found : List Naming) → ((x : Naming) → Goes nothing (declarations_from n (found ++ x ∷ [])) (MoreNames (found ++ x ∷ []))) → (x : Naming) → Goes (Line found x) (declarations_from n (found ++ x ∷ [])) (MoreNames found)
+unfolding Line
+one_name n found others x =
+    Goes-as (Line found x) (MoreNames found) (MoreNames (found ++ x ∷ [])) (declarations_from n (found ++ x ∷ [])) (others x) (λ ns ls h. record {
+      more = x ∷ h.second.more;
+      value = h.second.value ∙ append_assoc found (x ∷ []) h.second.more;
+      spelled = replaced h h.second.spelled;
+    })
 
-  Spells-declarations : Continues names (grammar.header (codes "problem")) declarations Names
-  unfolding declarations name_lines
-  Spells-declarations = Continues-bind names (MoreNames 6 []) Names (declarations_from 6 []) _ (Spells-declarations_from 6 []) (λ ns. by ns (is_algebra ns) refl)
-    where
-      by : (ns : List Naming) (good : Bool) → is_algebra ns ≡ good → Continues names (grammar.header (codes "problem") ▸ MoreNames 6 [] ns) (cond good (pure ns) refuse) Names
-      by ns true e = Continues-pure names Names ns (λ ls h.
-          let value = h.second.value in
-          let few = h.second.few in
-          record {
-            few = subst (λ (ms : List Naming). length ms ≤ 6) (sym value) few;
-            algebra = e;
-            spelled = replaced h (subst (λ (ms : List Naming). grammar.declarations [] ms h.back) (sym value) h.second.spelled);
-          })
-      by ns false e = Continues-refuse names Names (grammar.header (codes "problem") ▸ MoreNames 6 [] ns)
+line_goes : (n : ℕ) (found : List Naming) → ((x : Naming) → Goes nothing (declarations_from n (found ++ x ∷ [])) (MoreNames (found ++ x ∷ []))) → (i j : Input) (ns : List Naming) (o : Option NameLine) → name_line i ≡ o
+    → declarations_by (λ line. declaration line found >>= (λ naming. declarations_from n (found ++ naming ∷ []))) found o i ≡ Ok (ns, j) → Going nothing (MoreNames found ns) i j
+line_goes n found others i j ns None e h = Goes-pure nothing (MoreNames found) found (no_name found) i j ns h
+line_goes n found others i j ns (Some line) e h =
+    by_only nothing (Line found) (MoreNames found) (λ naming. declarations_from n (found ++ naming ∷ [])) i j ns (declaration line found i) (λ x k read. declared_is found line i k x e read) (one_name n found others) h
 
-  pub Spells-names : Spells names form.names Names
-  unfolding form.names
-  Spells-names = Spells-bind names (λ (_ : Unit {0}). grammar.header (codes "problem")) Names (read.header (codes "problem")) _ (Spells-header names (codes "problem")) (λ _. Spells-declarations)
+Goes-lines : (n : ℕ) (found : List Naming) → Goes nothing (declarations_from n found) (MoreNames found)
+unfolding declarations_from
+Goes-lines zero found = Goes-seen nothing (MoreNames found) name_line (full_by found) (full_goes found)
+Goes-lines (suc n) found = λ i j ns h. line_goes n found (λ x. Goes-lines n (found ++ x ∷ [])) i j ns (name_line i) refl h
+
+pub Goes-declarations : Goes nothing declarations (grammar.name_lines [])
+unfolding declarations
+Goes-declarations = Goes-first nothing (MoreNames []) (grammar.name_lines []) (declarations_from 6 []) some_names (Goes-lines 6 []) by
+  where
+    by : (ns : List Naming) → Goes (MoreNames [] ns) (some_names ns) (grammar.name_lines [])
+    by [] = Goes-fault (MoreNames [] []) (grammar.name_lines []) Syntax
+    by (n ∷ ns) = Goes-pure (MoreNames [] (n ∷ ns)) (grammar.name_lines []) (n ∷ ns) (λ ls h. subst (λ (ms : List Naming). grammar.name_lines [] ms ls) (sym h.value) h.spelled)

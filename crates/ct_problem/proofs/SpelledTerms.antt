@@ -1,24 +1,26 @@
 -- What is read as a term is spelled so. Main lemma `Spells-term`, rule by rule.
-use Rattle.std.proofs.Common.{◌≡◌, ℕ, zero, suc, Bool, true, false, cond, List, [], ◌∷◌, ◌++◌, length, Some, refl, ap, ◌∙◌, arith}
+use Rattle.std.proofs.Common.{◌≡◌, ℕ, zero, suc, Bool, true, false, cond, List, [], ◌∷◌, ◌++◌, length, Some, Ok, refl, ap, ◌∙◌}
 use Rattle.std.proofs.lemmas.List.{append_assoc}
 use Rattle.ct_token.specs.declared.token.Symbol.TheVariants as symbol
 use Rattle.ct_mono.specs.Limits.{largest_degree}
-use Rattle.ct_ore.specs.Naming.{Naming}
 use Rattle.ct_problem.specs.declared.expr.Expr.{Expr}
 use Rattle.ct_problem.specs.declared.expr.Expr.TheVariants as e
-use Rattle.ct_problem.specs.Input.{Input, Outcome, Parser, ◌>>=◌, ◌>>◌, ◌<$>◌, and_then, pure, refuse, peek, skip, next, past, eat, expect, sees, sees_word, place_of_name, is_wanted, spelling}
+use Rattle.ct_problem.specs.declared.fault.BadKind.TheVariants.{Syntax, ExponentTooLarge}
+use Rattle.ct_problem.specs.Input.{Input, Outcome, Parser, ◌>>=◌, pure, eat}
 use Rattle.ct_problem.specs.Input as input
 use Rattle.ct_problem.specs.Number as digits
+use Rattle.ct_problem.specs.Names.{Names}
 use Rattle.ct_problem.specs.Expressions.{product_of, atom, factor, factors_from, term}
 use Rattle.ct_problem.specs.Lexemes.{Lexeme, Sign, Texts, optional, number, ◌▸◌, each}
 use Rattle.ct_problem.specs.Grammar.{IsAtom, IsFactor, IsTerm, IsMoreFactor}
 use Rattle.ct_problem.proofs.JoinedTexts.{joined_to_left, joined_to_right, joined_nothing, on_second}
-use Rattle.ct_problem.proofs.Spelling.{Spelled, Spells, Continues, Continues-pure, Continues-last, Continues-bind, Spells-refuse, Spells-bind, Spells-eat, Spells-number}
+use Rattle.ct_problem.proofs.Spelling.{Spelled, Spells, Continues, Continues-pure, Continues-last, Continues-bind, Spells-fault, Spells-bind, Spells-eat}
+use Rattle.ct_problem.proofs.SpelledSteps.{Spells-number}
 use Rattle.ct_problem.proofs.SpelledAtoms.{Spells-atom}
 
-module _ (names : List Naming) (operators : Bool) where
+module _ (names : Names) (operators : Bool) where
   module _ (inner : Parser Expr) (InParentheses : Expr → Texts)
-      (opens : (i j : Input) (x : Expr) → i.names ≡ names → input.symbol i ≡ Some (symbol.Sign 40) → inner i ≡ Some (x, j) → Spelled names (InParentheses x) i j) where
+      (opens : (i j : Input) (x : Expr) → input.symbol i ≡ Some (symbol.Sign 40) → inner i ≡ Ok (x, j) → Spelled (InParentheses x) i j) where
     -- the sets of the rules
     abbrev Atom : Expr → Texts
     Atom = IsAtom names operators InParentheses
@@ -32,17 +34,17 @@ module _ (names : List Naming) (operators : Bool) where
     abbrev ATerm : Expr → Texts
     ATerm = IsTerm names operators InParentheses
 
-    Spells-factor : Spells names (factor operators inner) Factor
+    Spells-factor : Spells (factor names operators inner) Factor
     unfolding factor
     Spells-factor =
-        Spells-bind names Atom Factor (atom operators inner) _ (Spells-atom names operators inner InParentheses opens) (λ base.
-        Continues-bind names (optional (Sign 94)) Factor (eat 94) _ (Spells-eat names 94) (λ is_power. by base is_power))
+        Spells-bind Atom Factor (atom names operators inner) _ (Spells-atom names operators inner InParentheses opens) (λ base.
+        Continues-bind (optional (Sign 94)) Factor (eat 94) _ (Spells-eat 94) (λ is_power. by base is_power))
       where
-        by : (base : Expr) (is_power : Bool) → Continues names (Atom base ▸ optional (Sign 94) is_power) (cond is_power (digits.number largest_degree >>= (λ n. pure (e.Power base n))) (pure base)) Factor
+        by : (base : Expr) (is_power : Bool) → Continues (Atom base ▸ optional (Sign 94) is_power) (cond is_power (digits.number largest_degree ExponentTooLarge >>= (λ n. pure (e.Power base n))) (pure base)) Factor
         by base true =
-            Continues-bind names (number largest_degree) Factor (digits.number largest_degree) (λ n. pure (e.Power base n)) (Spells-number names largest_degree (omega arith))
-            (λ n. Continues-pure names Factor (e.Power base n) (λ ls h. IsFactor.power base n refl h))
-        by base false = Continues-pure names Factor base (λ ls h. IsFactor.plain (joined_nothing h))
+            Continues-bind (number largest_degree) Factor (digits.number largest_degree ExponentTooLarge) (λ n. pure (e.Power base n)) (Spells-number largest_degree ExponentTooLarge)
+            (λ n. Continues-pure Factor (e.Power base n) (λ ls h. IsFactor.power base n refl h))
+        by base false = Continues-pure Factor base (λ ls h. IsFactor.plain (joined_nothing h))
 
     -- a product with the factors that were found before
     record Product (found : List Expr) (x : Expr) (ls : List Lexeme) : Type 0 where
@@ -51,17 +53,17 @@ module _ (names : List Naming) (operators : Bool) where
       value : x ≡ product_of (found ++ first ∷ more)
       spelled : (Factor first ▸ Factors more) ls
 
-    Spells-factors : (n : ℕ) (found : List Expr) → Spells names (factors_from operators inner n found) (Product found)
+    Spells-factors : (n : ℕ) (found : List Expr) → Spells (factors_from names operators inner n found) (Product found)
     unfolding factors_from
-    Spells-factors zero found = Spells-refuse names (Product found)
+    Spells-factors zero found = Spells-fault (Product found) Syntax
     Spells-factors (suc n) found =
-        Spells-bind names Factor (Product found) (factor operators inner) _ Spells-factor (λ x.
-        Continues-bind names (optional (Sign 42)) (Product found) (eat 42) _ (Spells-eat names 42) (λ more. by x (Spells-factors n (found ++ x ∷ [])) more))
+        Spells-bind Factor (Product found) (factor names operators inner) _ Spells-factor (λ x.
+        Continues-bind (optional (Sign 42)) (Product found) (eat 42) _ (Spells-eat 42) (λ more. by x (Spells-factors n (found ++ x ∷ [])) more))
       where
-        by : (x : Expr) → Spells names (factors_from operators inner n (found ++ x ∷ [])) (Product (found ++ x ∷ [])) → (more : Bool)
-            → Continues names (Factor x ▸ optional (Sign 42) more) (cond more (factors_from operators inner n (found ++ x ∷ [])) (pure (product_of (found ++ x ∷ [])))) (Product found)
+        by : (x : Expr) → Spells (factors_from names operators inner n (found ++ x ∷ [])) (Product (found ++ x ∷ [])) → (more : Bool)
+            → Continues (Factor x ▸ optional (Sign 42) more) (cond more (factors_from names operators inner n (found ++ x ∷ [])) (pure (product_of (found ++ x ∷ [])))) (Product found)
         by x others true =
-            Continues-last names (Product found) (Product (found ++ x ∷ [])) (factors_from operators inner n (found ++ x ∷ [])) others (λ y ls h.
+            Continues-last (Product found) (Product (found ++ x ∷ [])) (factors_from names operators inner n (found ++ x ∷ [])) others (λ y ls h.
             let rest = h.second in
             record {
               first = x;
@@ -69,11 +71,11 @@ module _ (names : List Naming) (operators : Bool) where
               value = rest.value ∙ ap product_of (append_assoc found (x ∷ []) (rest.first ∷ rest.more));
               spelled = on_second (λ xs r. joined_to_left r) (joined_to_right (record { front = h.front; back = h.back; parts = h.parts; first = h.first; second = rest.spelled }));
             })
-        by x others false = Continues-pure names (Product found) (product_of (found ++ x ∷ [])) (λ ls h. record { first = x; more = []; value = refl; spelled = h })
+        by x others false = Continues-pure (Product found) (product_of (found ++ x ∷ [])) (λ ls h. record { first = x; more = []; value = refl; spelled = h })
 
-    pub Spells-term : Spells names (term operators inner) ATerm
+    pub Spells-term : Spells (term names operators inner) ATerm
     unfolding term
-    Spells-term i j x here h =
-        let s = Spells-factors (length i.left) [] i j x here h in
+    Spells-term i j x h =
+        let s = Spells-factors (suc (length i.left)) [] i j x h in
         let p = s.spells in
-        record { used = s.used; parts = s.parts; spells = record { first = p.first; more = p.more; value = p.value; spelled = p.spelled }; declared = s.declared }
+        record { used = s.used; parts = s.parts; spells = record { first = p.first; more = p.more; value = p.value; spelled = p.spelled }; follows = s.follows }

@@ -9,7 +9,7 @@ use Rattle.ct_algebra.specs.FreeOf.{EachName}
 use Rattle.ct_ore.specs.Naming.{Naming, IsNaming, EachIsNaming, actions_of, summed_of, summed_from, with_summed}
 use Rattle.ct_ore.specs.declared.algebra.Role.{Role}
 use Rattle.ct_ore.specs.declared.algebra.Role.TheVariants as role
-use Rattle.ct_problem.specs.Declarations.{summed_texts, with_text}
+use Rattle.ct_problem.specs.Names.{summed_texts, with_text}
 
 lengths_from : (k : ℕ) (ns : List Naming) → length (summed_from k ns) ≡ length (summed_texts ns)
 lengths_from k [] = refl

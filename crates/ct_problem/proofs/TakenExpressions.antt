@@ -2,23 +2,24 @@
 use Rattle.std.proofs.Common.{◌≡◌, ℕ, zero, suc, ◌≤◌, ◌||◌, Bool, true, false, cond, List, [], ◌∷◌, ◌++◌, length, map, Option, Some, None, refl, sym, ap, ◌∙◌, subst, arith}
 use Rattle.std.specs.Option.{is_none}
 use Rattle.std.proofs.lemmas.List.{append_assoc, append-nil}
-use Rattle.ct_ore.specs.Naming.{Naming}
 use Rattle.ct_problem.specs.declared.expr.Expr.{Expr}
 use Rattle.ct_problem.specs.declared.expr.Expr.TheVariants as expr
 use Rattle.ct_problem.specs.declared.expr.Summand.{Summand}
 use Rattle.ct_problem.specs.Input.{Input, Parser, ◌>>=◌, ◌>>◌, ◌<$>◌, pure, skip, eat, expect, sees}
+use Rattle.ct_problem.specs.Names.{Names}
 use Rattle.ct_problem.specs.Expressions.{summand, joint, is_minus, joins, term, summands_from, summands, sum, nested, expression}
 use Rattle.ct_problem.specs.Lexemes.{Lexeme, Sign, Texts, nothing, one, optional, ◌▸◌, each}
 use Rattle.ct_problem.specs.Grammar.{Term, sum_of, IsTerm, IsSum, IsNested, IsMoreTerm, IsExpression}
 use Rattle.ct_problem.proofs.LexemeSteps.{shown, shows_sign, sees-shown}
 use Rattle.ct_problem.proofs.JoinedTexts.{joined_to_right}
+use Rattle.ct_problem.proofs.Following.{Follows-same}
 use Rattle.ct_problem.proofs.Taking.{Taken, Takes, anywhere, Taken-bind, Takes-pure, Takes-value, Takes-to_right, Takes-bind, Takes-then, Takes-next, Takes-last, Takes-skip, Takes-eat, Takes-no_sign, Takes-expect}
 use Rattle.ct_problem.proofs.LexemeStarts.{Opens-joined, Opens-before, each-length, begun-length, begun-shows, AfterTerm, AfterSum, after_term}
 use Rattle.ct_problem.proofs.TakenTerms.{term_opens, Takes-term, room}
 
-module _ (names : List Naming) where
+module _ (bad : Option ℕ) (names : Names) where
   module _ (operators : Bool) (inner : Parser Expr) (InParentheses : Expr → Texts)
-      (inner_takes : (x : Expr) → Takes names inner x (InParentheses x) anywhere)
+      (inner_takes : (x : Expr) → Takes bad inner x (InParentheses x) anywhere)
       (inner_opens : (x : Expr) (ls : List Lexeme) → InParentheses x ls → (back : List Lexeme) × (ls ≡ Sign 40 ∷ back)) where
     -- the sets of the rules
     abbrev ATerm : Expr → Texts
@@ -33,62 +34,62 @@ module _ (names : List Naming) where
     abbrev plus_by : Bool → Parser (Option Bool)
     plus_by plus = cond plus (pure (Some false)) (eat 45 >>= minus_by)
 
-    Takes-no_joint : Takes names joint None nothing AfterSum
+    Takes-no_joint : Takes bad joint None nothing AfterSum
     unfolding joint
     Takes-no_joint i used rest here e u after =
-        let plus = Takes-no_sign names 43 i used rest here e u after.no_plus in
-        let minus = Takes-no_sign names 45 plus.left [] rest plus.declared plus.shows refl after.no_minus in
-        Taken-bind names (eat 43) plus_by i false None rest rest plus
-        (Taken-bind names (eat 45) minus_by plus.left false None rest rest minus (record { left = minus.left; reads = refl; shows = minus.shows; declared = minus.declared }))
+        let plus = Takes-no_sign bad 43 i used rest here e u after.no_plus in
+        let minus = Takes-no_sign bad 45 plus.left [] rest (plus.follows.same_bad ∙ here) plus.shows refl after.no_minus in
+        Taken-bind bad (eat 43) plus_by i false None rest rest plus
+        (Taken-bind bad (eat 45) minus_by plus.left false None rest rest minus (record { left = minus.left; reads = refl; shows = minus.shows; follows = Follows-same minus.left }))
 
-    Takes-joint : (negative : Bool) → Takes names joint (Some negative) (one (Sign (cond negative 45 43))) anywhere
+    Takes-joint : (negative : Bool) → Takes bad joint (Some negative) (one (Sign (cond negative 45 43))) anywhere
     unfolding joint
-    Takes-joint false i used rest here e u after = Takes-last names true (Some false) (one (Sign 43)) anywhere (eat 43) plus_by (Takes-eat names 43) (λ k. refl) i used rest here e u after
+    Takes-joint false i used rest here e u after = Takes-last bad true (Some false) (one (Sign 43)) anywhere (eat 43) plus_by (Takes-eat bad 43) (λ k. refl) i used rest here e u after
     Takes-joint true i used rest here e u after =
-        let plus = Takes-no_sign names 43 i [] (used ++ rest) here e refl (ap (λ ls. shows_sign 43 (ls ++ rest)) u) in
-        let minus = Takes-eat names 45 plus.left used rest plus.declared plus.shows u tt in
-        Taken-bind names (eat 43) plus_by i false (Some true) (used ++ rest) rest plus
-        (Taken-bind names (eat 45) minus_by plus.left true (Some true) rest rest minus (record { left = minus.left; reads = refl; shows = minus.shows; declared = minus.declared }))
+        let plus = Takes-no_sign bad 43 i [] (used ++ rest) here e refl (ap (λ ls. shows_sign 43 (ls ++ rest)) u) in
+        let minus = Takes-eat bad 45 plus.left used rest (plus.follows.same_bad ∙ here) plus.shows u tt in
+        Taken-bind bad (eat 43) plus_by i false (Some true) (used ++ rest) rest plus
+        (Taken-bind bad (eat 45) minus_by plus.left true (Some true) rest rest minus (record { left = minus.left; reads = refl; shows = minus.shows; follows = Follows-same minus.left }))
 
     abbrev made : List Term → List Summand
     made ts = map (λ t. summand t.0 t.1) ts
 
     -- a sign ends a term
     sign_after : (negative : Bool) (ls : List Lexeme) → AfterTerm (Sign (cond negative 45 43) ∷ ls)
-    sign_after true ls = record { no_power = refl; no_factor = refl }
-    sign_after false ls = record { no_power = refl; no_factor = refl }
+    sign_after true ls = record { no_divisor = refl; no_power = refl; no_factor = refl }
+    sign_after false ls = record { no_divisor = refl; no_power = refl; no_factor = refl }
 
     terms_after : (more : List Term) (back rest : List Lexeme) → each MoreTerm more back → AfterSum rest → AfterTerm (back ++ rest)
     terms_after [] back rest h after = subst (λ (ls : List Lexeme). AfterTerm (ls ++ rest)) (sym h) (after_term rest after)
     terms_after (t ∷ more) back rest h after = begun-shows (Sign (cond t.0 45 43)) back rest AfterTerm (joined_to_right h) (sign_after t.0)
 
     abbrev sign_by : ℕ → List Summand → Option Bool → Parser (List Summand)
-    sign_by n found sign = cond (is_none sign) (pure found) (term operators inner >>= (λ x. summands_from operators inner n (found ++ summand (is_minus sign) x ∷ [])))
+    sign_by n found sign = cond (is_none sign) (pure found) (term names operators inner >>= (λ x. summands_from names operators inner n (found ++ summand (is_minus sign) x ∷ [])))
 
-    Takes-summands_from : (more : List Term) (found : List Summand) (n : ℕ) → length more ≤ n → Takes names (summands_from operators inner n found) (found ++ made more) (each MoreTerm more) AfterSum
+    Takes-summands_from : (more : List Term) (found : List Summand) (n : ℕ) → length more ≤ n → Takes bad (summands_from names operators inner n found) (found ++ made more) (each MoreTerm more) AfterSum
     unfolding summands_from
-    Takes-summands_from [] found zero enough = Takes-value names nothing AfterSum (pure found) found (found ++ []) (sym (append-nil found)) (Takes-pure names found AfterSum)
+    Takes-summands_from [] found zero enough = Takes-value bad nothing AfterSum (pure found) found (found ++ []) (sym (append-nil found)) (Takes-pure bad found AfterSum)
     Takes-summands_from [] found (suc n) enough =
-        Takes-value names nothing AfterSum (joint >>= sign_by n found) found (found ++ []) (sym (append-nil found))
-        (Takes-last names None found nothing AfterSum joint (sign_by n found) Takes-no_joint (λ k. refl))
+        Takes-value bad nothing AfterSum (joint >>= sign_by n found) found (found ++ []) (sym (append-nil found))
+        (Takes-last bad None found nothing AfterSum joint (sign_by n found) Takes-no_joint (λ k. refl))
     Takes-summands_from (t ∷ more) found zero enough = let no : ⊥ = omega (arith, enough) in absurd no
     Takes-summands_from (t ∷ more) found (suc n) enough =
-        Takes-value names (each MoreTerm (t ∷ more)) AfterSum (joint >>= sign_by n found) ((found ++ summand t.0 t.1 ∷ []) ++ made more) (found ++ made (t ∷ more)) (append_assoc found (summand t.0 t.1 ∷ []) (made more))
-        (Takes-to_right names (one (Sign (cond t.0 45 43))) (ATerm t.1) (each MoreTerm more) AfterSum (joint >>= sign_by n found) ((found ++ summand t.0 t.1 ∷ []) ++ made more)
-        (Takes-then names (Some t.0) ((found ++ summand t.0 t.1 ∷ []) ++ made more) (one (Sign (cond t.0 45 43))) (ATerm t.1 ▸ each MoreTerm more) AfterSum joint (sign_by n found) (Takes-joint t.0)
-        (Takes-bind names t.1 ((found ++ summand t.0 t.1 ∷ []) ++ made more) (ATerm t.1) (each MoreTerm more) AfterTerm AfterSum (term operators inner) (λ x. summands_from operators inner n (found ++ summand t.0 x ∷ [])) (Takes-term names operators inner InParentheses inner_takes inner_opens t.1)
+        Takes-value bad (each MoreTerm (t ∷ more)) AfterSum (joint >>= sign_by n found) ((found ++ summand t.0 t.1 ∷ []) ++ made more) (found ++ made (t ∷ more)) (append_assoc found (summand t.0 t.1 ∷ []) (made more))
+        (Takes-to_right bad (one (Sign (cond t.0 45 43))) (ATerm t.1) (each MoreTerm more) AfterSum (joint >>= sign_by n found) ((found ++ summand t.0 t.1 ∷ []) ++ made more)
+        (Takes-then bad (Some t.0) ((found ++ summand t.0 t.1 ∷ []) ++ made more) (one (Sign (cond t.0 45 43))) (ATerm t.1 ▸ each MoreTerm more) AfterSum joint (sign_by n found) (Takes-joint t.0)
+        (Takes-bind bad t.1 ((found ++ summand t.0 t.1 ∷ []) ++ made more) (ATerm t.1) (each MoreTerm more) AfterTerm AfterSum (term names operators inner) (λ x. summands_from names operators inner n (found ++ summand t.0 x ∷ [])) (Takes-term bad names operators inner InParentheses inner_takes inner_opens t.1)
         (Takes-summands_from more (found ++ summand t.0 t.1 ∷ []) n (omega (arith, enough))) (terms_after more))))
 
-    Takes-summands : (negative : Bool) (first : Expr) (more : List Term) → Takes names (summands operators inner first negative) (summand negative first ∷ made more) (each MoreTerm more) AfterSum
+    Takes-summands : (negative : Bool) (first : Expr) (more : List Term) → Takes bad (summands names operators inner first negative) (summand negative first ∷ made more) (each MoreTerm more) AfterSum
     unfolding summands
     Takes-summands negative first more i used rest here e u after =
         let count = each-length MoreTerm (λ t xs k. begun-length (Sign (cond t.0 45 43)) xs k) more used u in
-        let left = room names operators inner InParentheses inner_takes inner_opens i used rest e in
+        let left = room bad names operators inner InParentheses inner_takes inner_opens i used rest e in
         let r = Takes-summands_from more (summand negative first ∷ []) (length i.left) (omega (arith, count, left)) i used rest here e u after in
-        record { left = r.left; reads = r.reads; shows = r.shows; declared = r.declared }
+        record { left = r.left; reads = r.reads; shows = r.shows; follows = r.follows }
 
     abbrev rest_by : Bool → Expr → Parser Expr
-    rest_by negative first k = cond (negative || joins k) (expr.Sum <$> summands operators inner first negative) (pure first) k
+    rest_by negative first k = cond (negative || joins k) (expr.Sum <$> summands names operators inner first negative) (pure first) k
 
     joins-shown : (i : Input) → joins i ≡ shows_sign 43 (shown i) || shows_sign 45 (shown i)
     joins-shown i = ap (λ (b : Bool). b || sees 45 i) (sees-shown 43 i) ∙ ap (λ (b : Bool). shows_sign 43 (shown i) || b) (sees-shown 45 i)
@@ -97,40 +98,40 @@ module _ (names : List Naming) where
     sign_joins true ls = refl
     sign_joins false ls = refl
 
-    Takes-all : (negative : Bool) (first : Expr) (more : List Term) → Takes names (expr.Sum <$> summands operators inner first negative) (expr.Sum (summand negative first ∷ made more)) (each MoreTerm more) AfterSum
+    Takes-all : (negative : Bool) (first : Expr) (more : List Term) → Takes bad (expr.Sum <$> summands names operators inner first negative) (expr.Sum (summand negative first ∷ made more)) (each MoreTerm more) AfterSum
     Takes-all negative first more =
-        Takes-last names (summand negative first ∷ made more) (expr.Sum (summand negative first ∷ made more)) (each MoreTerm more) AfterSum (summands operators inner first negative) (λ xs. pure (expr.Sum xs)) (Takes-summands negative first more) (λ k. refl)
+        Takes-last bad (summand negative first ∷ made more) (expr.Sum (summand negative first ∷ made more)) (each MoreTerm more) AfterSum (summands names operators inner first negative) (λ xs. pure (expr.Sum xs)) (Takes-summands negative first more) (λ k. refl)
 
-    Takes-rest : (negative : Bool) (first : Expr) (more : List Term) → Takes names (rest_by negative first) (sum_of negative first more) (each MoreTerm more) AfterSum
+    Takes-rest : (negative : Bool) (first : Expr) (more : List Term) → Takes bad (rest_by negative first) (sum_of negative first more) (each MoreTerm more) AfterSum
     Takes-rest true first more i used rest here e u after = Takes-all true first more i used rest here e u after
     Takes-rest false first [] i used rest here e u after =
         let here_shown : shown i ≡ rest = e ∙ ap (λ ls. ls ++ rest) u in
         let none : joins i ≡ false = joins-shown i ∙ ap (λ ls. shows_sign 43 ls || shows_sign 45 ls) here_shown ∙ ap (λ (b : Bool). b || shows_sign 45 rest) after.no_plus ∙ after.no_minus in
-        record { left = i; reads = ap (λ (b : Bool). cond b (expr.Sum <$> summands operators inner first false) (pure first) i) none; shows = here_shown; declared = here }
+        record { left = i; reads = ap (λ (b : Bool). cond b (expr.Sum <$> summands names operators inner first false) (pure first) i) none; shows = here_shown; follows = Follows-same i }
     Takes-rest false first (t ∷ more) i used rest here e u after =
         let joined = begun-shows (Sign (cond t.0 45 43)) used rest (λ ls. shows_sign 43 ls || shows_sign 45 ls ≡ true) (joined_to_right u) (sign_joins t.0) in
         let some : joins i ≡ true = joins-shown i ∙ ap (λ ls. shows_sign 43 ls || shows_sign 45 ls) e ∙ joined in
         let r = Takes-all false first (t ∷ more) i used rest here e u after in
-        record { left = r.left; reads = ap (λ (b : Bool). cond b (expr.Sum <$> summands operators inner first false) (pure first) i) some ∙ r.reads; shows = r.shows; declared = r.declared }
+        record { left = r.left; reads = ap (λ (b : Bool). cond b (expr.Sum <$> summands names operators inner first false) (pure first) i) some ∙ r.reads; shows = r.shows; follows = r.follows }
 
-    from_first : (negative : Bool) (first : Expr) (more : List Term) → Takes names (term operators inner >>= rest_by negative) (sum_of negative first more) (ATerm first ▸ each MoreTerm more) AfterSum
+    from_first : (negative : Bool) (first : Expr) (more : List Term) → Takes bad (term names operators inner >>= rest_by negative) (sum_of negative first more) (ATerm first ▸ each MoreTerm more) AfterSum
     from_first negative first more =
-        Takes-bind names first (sum_of negative first more) (ATerm first) (each MoreTerm more) AfterTerm AfterSum (term operators inner) (rest_by negative) (Takes-term names operators inner InParentheses inner_takes inner_opens first) (Takes-rest negative first more) (terms_after more)
+        Takes-bind bad first (sum_of negative first more) (ATerm first) (each MoreTerm more) AfterTerm AfterSum (term names operators inner) (rest_by negative) (Takes-term bad names operators inner InParentheses inner_takes inner_opens first) (Takes-rest negative first more) (terms_after more)
 
     abbrev signed_by : Bool → Parser Expr
-    signed_by negative = term operators inner >>= rest_by negative
+    signed_by negative = term names operators inner >>= rest_by negative
 
-    Takes-signed : (negative : Bool) (first : Expr) (more : List Term) → Takes names (eat 45 >>= signed_by) (sum_of negative first more) (optional (Sign 45) negative ▸ (ATerm first ▸ each MoreTerm more)) AfterSum
+    Takes-signed : (negative : Bool) (first : Expr) (more : List Term) → Takes bad (eat 45 >>= signed_by) (sum_of negative first more) (optional (Sign 45) negative ▸ (ATerm first ▸ each MoreTerm more)) AfterSum
     Takes-signed true first more =
-        Takes-then names true (sum_of true first more) (one (Sign 45)) (ATerm first ▸ each MoreTerm more) AfterSum (eat 45) signed_by (Takes-eat names 45) (from_first true first more)
+        Takes-then bad true (sum_of true first more) (one (Sign 45)) (ATerm first ▸ each MoreTerm more) AfterSum (eat 45) signed_by (Takes-eat bad 45) (from_first true first more)
     Takes-signed false first more =
-        Takes-bind names false (sum_of false first more) nothing (ATerm first ▸ each MoreTerm more) (λ rest. shows_sign 45 rest ≡ false) AfterSum (eat 45) signed_by (Takes-no_sign names 45) (from_first false first more)
-        (λ back rest h after. Opens-before back rest (Opens-joined h (term_opens names operators inner InParentheses inner_takes inner_opens first h.front h.first)))
+        Takes-bind bad false (sum_of false first more) nothing (ATerm first ▸ each MoreTerm more) (λ rest. shows_sign 45 rest ≡ false) AfterSum (eat 45) signed_by (Takes-no_sign bad 45) (from_first false first more)
+        (λ back rest h after. Opens-before back rest (Opens-joined h (term_opens bad names operators inner InParentheses inner_takes inner_opens first h.front h.first)))
 
-    pub Takes-sum : (x : Expr) → Takes names (sum operators inner) x (IsSum names operators InParentheses x) AfterSum
+    pub Takes-sum : (x : Expr) → Takes bad (sum names operators inner) x (IsSum names operators InParentheses x) AfterSum
     unfolding sum
     Takes-sum x i used rest here e s after =
-        subst (λ (y : Expr). Taken names (sum operators inner) i y rest) (sym s.value)
+        subst (λ (y : Expr). Taken (sum names operators inner) i y rest) (sym s.value)
         (Takes-signed s.negative s.first s.more i used rest here e (joined_to_right s.spelled) after)
 
   module _ (operators : Bool) where
@@ -139,16 +140,16 @@ module _ (names : List Naming) where
     nested_opens zero x ls h = absurd h
     nested_opens (suc depth) x ls h = let k = joined_to_right h in (k.back, k.parts ∙ ap (λ xs. xs ++ k.back) k.first)
 
-    Takes-nested : (depth : ℕ) (x : Expr) → Takes names (nested operators depth) x (IsNested names operators depth x) anywhere
+    Takes-nested : (depth : ℕ) (x : Expr) → Takes bad (nested names operators depth) x (IsNested names operators depth x) anywhere
     unfolding nested IsNested
     Takes-nested zero x i used rest here e u after = absurd u
     Takes-nested (suc depth) x i used rest here e u after =
-        Takes-to_right names (one (Sign 40)) (IsSum names operators (IsNested names operators depth) x) (one (Sign 41)) anywhere (nested operators (suc depth)) x
-        (Takes-next names tt x (one (Sign 40)) (IsSum names operators (IsNested names operators depth) x ▸ one (Sign 41)) anywhere skip _ (Takes-skip names (Sign 40))
-        (Takes-bind names x x (IsSum names operators (IsNested names operators depth) x) (one (Sign 41)) AfterSum anywhere (sum operators (nested operators depth)) (λ inner. expect 41 >> pure inner)
-        (Takes-sum operators (nested operators depth) (IsNested names operators depth) (Takes-nested depth) (nested_opens depth) x)
-        (Takes-last names tt x (one (Sign 41)) anywhere (expect 41) (λ _. pure x) (Takes-expect names 41) (λ k. refl))
-        (λ back rest m after. subst (λ (ls : List Lexeme). AfterSum (ls ++ rest)) (sym m) (record { no_power = refl; no_factor = refl; no_plus = refl; no_minus = refl })))) i used rest here e u after
+        Takes-to_right bad (one (Sign 40)) (IsSum names operators (IsNested names operators depth) x) (one (Sign 41)) anywhere (nested names operators (suc depth)) x
+        (Takes-next bad tt x (one (Sign 40)) (IsSum names operators (IsNested names operators depth) x ▸ one (Sign 41)) anywhere skip _ (Takes-skip bad (Sign 40))
+        (Takes-bind bad x x (IsSum names operators (IsNested names operators depth) x) (one (Sign 41)) AfterSum anywhere (sum names operators (nested names operators depth)) (λ inner. expect 41 >> pure inner)
+        (Takes-sum operators (nested names operators depth) (IsNested names operators depth) (Takes-nested depth) (nested_opens depth) x)
+        (Takes-last bad tt x (one (Sign 41)) anywhere (expect 41) (λ _. pure x) (Takes-expect bad 41) (λ k. refl))
+        (λ back rest m after. subst (λ (ls : List Lexeme). AfterSum (ls ++ rest)) (sym m) (record { no_divisor = refl; no_power = refl; no_factor = refl; no_plus = refl; no_minus = refl })))) i used rest here e u after
 
-    pub Takes-expression : (x : Expr) → Takes names (expression operators) x (IsExpression names operators x) AfterSum
-    Takes-expression x = Takes-sum operators (nested operators 64) (IsNested names operators 64) (Takes-nested 64) (nested_opens 64) x
+    pub Takes-expression : (x : Expr) → Takes bad (expression names operators) x (IsExpression names operators x) AfterSum
+    Takes-expression x = Takes-sum operators (nested names operators 64) (IsNested names operators 64) (Takes-nested 64) (nested_opens 64) x

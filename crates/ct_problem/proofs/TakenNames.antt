@@ -1,31 +1,36 @@
--- Lexemes that stand for the lines of names are read as those names. Main lemma `Takes-names`.
-use Rattle.std.proofs.Common.{◌≡◌, ℕ, zero, suc, ◌≤◌, ◌&&◌, Bool, true, false, cond, List, [], ◌∷◌, ◌++◌, length, Option, Some, None, IsTrue, refl, sym, ap, ◌∙◌, subst, arith, codes}
+-- Lexemes that stand for the lines of names are read as those names. Main lemma `Takes-declarations`.
+use Rattle.std.proofs.Common.{◌≡◌, ℕ, zero, suc, ◌+◌, ◌<◌, ◌≤◌, ◌||◌, not, nat_lt, Bool, true, false, cond, List, [], ◌∷◌, ◌++◌, length, Option, Some, None, Ok, refl, sym, ap, ◌∙◌, subst, rules, arith, tests, codes}
+use Rattle.std.specs.List.{count_by}
 use Rattle.std.specs.Str.{bytes_eq}
 use Rattle.std.proofs.lemmas.List.{append_assoc, append-nil}
-use Rattle.ct_algebra.specs.Actions.{Action, Shift, Derive, Still}
+use Rattle.std.proofs.lemmas.List.Sums.{sum_by-cons}
 use Rattle.ct_token.specs.declared.token.Symbol.{Symbol}
-use Rattle.ct_ore.specs.Naming.{Naming}
+use Rattle.ct_algebra.specs.Actions.{Action, Shift, Derive, Still}
+use Rattle.ct_ore.specs.Naming.{Naming, has_operator, is_summed}
 use Rattle.ct_ore.specs.declared.algebra.Role.{Role}
 use Rattle.ct_ore.specs.declared.algebra.Role.TheVariants as role
+use Rattle.ct_problem.specs.declared.fault.BadKind.TheVariants.{TooMany, NameTooLong, DuplicateName}
 use Rattle.ct_problem.specs.declared.reading.declarations.NameLine.{NameLine}
 use Rattle.ct_problem.specs.declared.reading.declarations.NameLine.TheVariants.{Free, Sum, Int, Param}
-use Rattle.ct_problem.specs.Input.{Input, Outcome, Parser, ◌>>=◌, ◌>>◌, and_then, pure, refuse, skip, next, eat_word, expect_word, line_end, spelling, sees_word}
-use Rattle.ct_problem.specs.Declarations.{name_line, is_word_symbol, is_new, is_new_name, free_action, action_of_line, role_of_line, declaration, declarations_by, declarations_from, name_lines, declarations, is_algebra}
-use Rattle.ct_problem.specs.Lines as read
-use Rattle.ct_problem.specs.FirstForm as form
-use Rattle.ct_problem.specs.Lexemes.{Lexeme, Word, LineEnd, Texts, nothing, one, ◌▸◌}
-use Rattle.ct_problem.specs.GrammarLines as grammar
-use Rattle.ct_problem.proofs.LexemeSteps.{shown, shows_word, sees_word-shown}
+use Rattle.ct_problem.specs.Input.{Input, Outcome, Parser, ◌>>=◌, ◌>>◌, and_then, pure, peek, skip, eat_word, expect_word, line_end, sees_word}
+use Rattle.ct_problem.specs.Declarations.{name_line, spelled_word, new_name, free_action, action_of_line, role_of_line, is_full, acts_fully, sums_fully, declared, declaration, declarations_by, full_by, declarations_from, some_names, declarations}
+use Rattle.ct_problem.specs.Names.{Names, is_new, summed_texts}
+use Rattle.ct_problem.specs.Number.{unless}
+use Rattle.ct_problem.specs.Lexemes.{Lexeme, Word, LineEnd, Texts, one, ◌▸◌}
+use Rattle.ct_problem.specs.GrammarLets as lets
+use Rattle.ct_problem.specs.GrammarLets.{IsDeclarable}
+use Rattle.ct_problem.specs.GrammarProblem as grammar
+use Rattle.ct_problem.specs.GrammarProblem.{AreFew}
+use Rattle.ct_problem.proofs.AlgebraNames.{operators-more, summed-more, with_text-length}
+use Rattle.ct_problem.proofs.Following.{Follows-same}
 use Rattle.ct_problem.proofs.JoinedTexts.{joined_to_right}
-use Rattle.ct_problem.proofs.Taking.{Taken, Takes, anywhere, Taken-bind, Takes-pure, Takes-value, Takes-to_right, Takes-then, Takes-next, Takes-last, Takes-skip, Takes-eat_word, Takes-no_word, Takes-expect_word, Takes-line_end, shows_a_word, spelling-shown, next-shown}
-use Rattle.ct_problem.proofs.TakenLines.{Takes-header}
+use Rattle.ct_problem.proofs.LexemeSteps.{shown, shows_word, sees_word-shown}
+use Rattle.ct_problem.proofs.LineStarts.{rank_of, AfterLines, other_word, fresh_before}
+use Rattle.ct_problem.proofs.ShownSymbols.{shows_a_word, spelling-shown}
+use Rattle.ct_problem.proofs.Taking.{Taken, Taken-bind, Takes, anywhere, Takes-to_right, Takes-then, Takes-next, Takes-last, Takes-unless, Takes-skip, Takes-eat_word, Takes-no_word, Takes-expect_word, headed}
+use Rattle.ct_problem.proofs.TakenSteps.{IsFresh, Takes-line_end}
 
--- no name line begins
-pub record NoName (rest : List Lexeme) : Type 0 where
-  pub no_free : shows_word (codes "free") rest ≡ false
-  pub no_sum : shows_word (codes "sum") rest ≡ false
-  pub no_int : shows_word (codes "int") rest ≡ false
-  pub no_param : shows_word (codes "param") rest ≡ false
+-- ---- which line begins
 
 name_line_by : (i : Input) (f s n p : Bool) → sees_word (codes "free") i ≡ f → sees_word (codes "sum") i ≡ s → sees_word (codes "int") i ≡ n → sees_word (codes "param") i ≡ p
     → name_line i ≡ cond f (Some Free) (cond s (Some Sum) (cond n (Some Int) (cond p (Some Param) None)))
@@ -44,69 +49,118 @@ line_with word i rest head = name_line_by i _ _ _ _ (seen (codes "free")) (seen 
     seen : (w : List ℕ) → sees_word w i ≡ bytes_eq word w
     seen w = sees_word-shown w i ∙ ap (shows_word w) head
 
-module _ (names : List Naming) where
-  Takes-shift : Takes names free_action Shift (one (Word (codes "shift"))) anywhere
+-- where other lines come, no name line begins
+no_line : (bad : Option ℕ) (i : Input) → AfterLines bad 1 (shown i) → name_line i ≡ None
+no_line bad i a = name_line_by i false false false false (seen (codes "free") (omega arith)) (seen (codes "sum") (omega arith)) (seen (codes "int") (omega arith)) (seen (codes "param") (omega arith))
+  where
+    seen : (w : List ℕ) → rank_of w < 1 → sees_word w i ≡ false
+    seen w below = sees_word-shown w i ∙ other_word w 1 (shown i) below a.from
+
+-- ---- room for a name
+
+operators-front : (xs ys : List Naming) → count_by has_operator xs ≤ count_by has_operator (xs ++ ys)
+operators-front [] ys = omega arith
+operators-front (x ∷ xs) ys =
+    let rest = operators-front xs ys in
+    let left = sum_by-cons (λ m. cond (has_operator m) 1 0) x xs in
+    let right = sum_by-cons (λ m. cond (has_operator m) 1 0) x (xs ++ ys) in
+    omega (arith, rest, left, right)
+
+summed-front : (xs ys : List Naming) → length (summed_texts xs) ≤ length (summed_texts (xs ++ ys))
+summed-front [] ys = omega arith
+summed-front (x ∷ xs) ys =
+    let rest = summed-front xs ys in
+    let left = with_text-length x.role x.text (summed_texts xs) in
+    let right = with_text-length x.role x.text (summed_texts (xs ++ ys)) in
+    omega (arith, rest, left, right)
+
+-- these names leave room for one more
+record HasRoom (found : List Naming) (n : Naming) : Type 0 where
+  operators : count_by has_operator found + cond (has_operator n) 1 0 ≤ 4
+  summed : length (summed_texts found) + cond (is_summed n.role) 1 0 ≤ 3
+
+room_is : (found more : List Naming) (n : Naming) → count_by has_operator (found ++ n ∷ more) ≤ 4 → length (summed_texts (found ++ n ∷ more)) ≤ 3 → HasRoom found n
+room_is found more n operators summed =
+    let e : (found ++ n ∷ []) ++ more ≡ found ++ n ∷ more = append_assoc found (n ∷ []) more in
+    let o = operators-front (found ++ n ∷ []) more in
+    let s = summed-front (found ++ n ∷ []) more in
+    let o2 : count_by has_operator (found ++ n ∷ []) ≤ 4 = omega (arith, o, ap (count_by has_operator) e, operators) in
+    let s2 : length (summed_texts (found ++ n ∷ [])) ≤ 3 = omega (arith, s, ap (λ (ns : List Naming). length (summed_texts ns)) e, summed) in
+    record { operators = omega (arith, o2, operators-more found n); summed = omega (arith, s2, summed-more found n) }
+
+below_is : (a b : ℕ) → b ≤ a → nat_lt a b ≡ false
+below_is a b h = first_of (search (rules, tests), grind (arith, tests))
+
+module _ (bad : Option ℕ) where
+  -- ---- the name that is declared
+
+  name_read : (i : Input) (rest : List Lexeme) (text : List ℕ) → shown i ≡ Word text ∷ rest → (peek >>= spelled_word) i ≡ Ok (text, i)
+  name_read i rest text head = ap (λ (o : Option Symbol). spelled_word o i) (shows_a_word i rest text head) ∙ ap (λ (v : List ℕ). let o : Outcome (List ℕ) = Ok (v, i) in o) (spelling-shown i rest text head)
+
+  pub Takes-new_name : (names : Names) (text : List ℕ) → Takes bad (new_name names) text (lets.declared names text) anywhere
+  unfolding new_name
+  Takes-new_name names text i used rest here e u after =
+      let head = headed bad i used rest (Word text) e u.1 in
+      let t = Takes-unless bad text (one (Word text)) anywhere (nat_lt 32 (length text)) NameTooLong (old_by text) (below_is 32 (length text) u.0.short)
+      (Takes-unless bad text (one (Word text)) anywhere (not (is_new text names)) DuplicateName (skip >> pure text) (ap not u.0.other)
+      (Takes-last bad tt text (one (Word text)) anywhere skip (λ _. pure text) (Takes-skip bad (Word text)) (λ k. refl))) i used rest here e u.1 tt in
+      record { left = t.left; reads = ap (λ o. and_then o (λ v. unless (nat_lt 32 (length v)) NameTooLong >> old_by v)) (name_read i rest text head) ∙ t.reads; shows = t.shows; follows = t.follows }
+    where
+      old_by : List ℕ → Parser (List ℕ)
+      old_by v = unless (not (is_new v names)) DuplicateName >> (skip >> pure v)
+
+  -- ---- the words behind it
+
+  Takes-shift : Takes bad free_action Shift (one (Word (codes "shift"))) anywhere
   unfolding free_action
-  Takes-shift = Takes-last names true Shift (one (Word (codes "shift"))) anywhere (eat_word (codes "shift")) (λ b. cond b (pure Shift) (expect_word (codes "diff") >> pure Derive)) (Takes-eat_word names (codes "shift")) (λ k. refl)
+  Takes-shift = Takes-last bad true Shift (one (Word (codes "shift"))) anywhere (eat_word (codes "shift")) (λ b. cond b (pure Shift) (expect_word (codes "diff") >> pure Derive)) (Takes-eat_word bad (codes "shift")) (λ k. refl)
 
-  abbrev action_by : Bool → Parser Action
-  action_by is_shift = cond is_shift (pure Shift) (expect_word (codes "diff") >> pure Derive)
-
-  Takes-diff : Takes names free_action Derive (one (Word (codes "diff"))) anywhere
+  Takes-diff : Takes bad free_action Derive (one (Word (codes "diff"))) anywhere
   unfolding free_action
   Takes-diff i used rest here e u after =
-      let no_shift = Takes-no_word names (codes "shift") i [] (used ++ rest) here e refl (ap (λ ls. shows_word (codes "shift") (ls ++ rest)) u) in
-      let diff = Takes-last names tt Derive (one (Word (codes "diff"))) anywhere (expect_word (codes "diff")) (λ _. pure Derive) (Takes-expect_word names (codes "diff")) (λ k. refl) no_shift.left used rest no_shift.declared no_shift.shows u tt in
-      Taken-bind names (eat_word (codes "shift")) action_by i false Derive (used ++ rest) rest no_shift diff
+      let no_shift = Takes-no_word bad (codes "shift") i [] (used ++ rest) here e refl (ap (λ ls. shows_word (codes "shift") (ls ++ rest)) u) in
+      let diff = Takes-last bad tt Derive (one (Word (codes "diff"))) anywhere (expect_word (codes "diff")) (λ _. pure Derive) (Takes-expect_word bad (codes "diff")) (λ k. refl) no_shift.left used rest (no_shift.follows.same_bad ∙ here) no_shift.shows u tt in
+      Taken-bind bad (eat_word (codes "shift")) (λ is_shift. cond is_shift (pure Shift) (expect_word (codes "diff") >> pure Derive)) i false Derive (used ++ rest) rest no_shift diff
 
-  -- the text of a new name
-  abbrev new_text : List Naming → Parser (List ℕ)
-  new_text found i = cond {A = Outcome (List ℕ)} (is_new_name found i) (Some (spelling i, i)) None
+  -- ---- a name line
 
-  Takes-new : {A : Type 0} (found : List Naming) (text : List ℕ) (q : List ℕ → Parser A) (y : A) (M F : Texts) → is_new text found ≡ true → Takes names (q text) y M F → Takes names (new_text found >>= (λ t. skip >> q t)) y (one (Word text) ▸ M) F
-  Takes-new found text q y M F new t i used rest here e h after =
-      let head : shown i ≡ Word text ∷ (h.back ++ rest) = e ∙ ap (λ ls. ls ++ rest) (h.parts ∙ ap (λ xs. xs ++ h.back) h.first) in
-      let spelled = spelling-shown i (h.back ++ rest) text head in
-      let good : is_new_name found i ≡ true =
-      ap (λ (o : Option Symbol). is_word_symbol o && is_new (spelling i) found) (shows_a_word i (h.back ++ rest) text head) ∙ ap (λ (v : List ℕ). is_new v found) spelled ∙ new in
-      let read : new_text found i ≡ Some (text, i) = ap (λ (b : Bool). cond {A = Outcome (List ℕ)} b (Some (spelling i, i)) None) good ∙ ap (λ (v : List ℕ). Some (v, i)) spelled in
-      let s = t (next i) h.back rest here (next-shown i (h.back ++ rest) (Word text) head) h.second after in
-      record { left = s.left; reads = ap (λ o. and_then o (λ t. skip >> q t)) read ∙ s.reads; shows = s.shows; declared = s.declared }
-
-  -- a line of a name
+  -- the line of this name
   record TakenLine (found : List Naming) (i : Input) (n : Naming) (rest : List Lexeme) : Type 0 where
     line : NameLine
     begins : name_line i ≡ Some line
-    taken : Taken names (declaration line found) i n rest
+    taken : Taken (declaration line found) i n rest
 
-  module _ (found : List Naming) (text : List ℕ) (new : is_new text found ≡ true) where
+  module _ (found : List Naming) (text : List ℕ) where
     -- what comes after the text
     abbrev after_text : NameLine → List ℕ → Parser Naming
     after_text line t = action_of_line line >>= (λ action. line_end >> pure (record { text = t; action = action; role = role_of_line line }))
 
-    Takes-end : (n : Naming) → Takes names (line_end >> pure n) n (one LineEnd) anywhere
-    Takes-end n = Takes-last names tt n (one LineEnd) anywhere line_end (λ _. pure n) (Takes-line_end names) (λ k. refl)
+    Takes-end : (n : Naming) → Takes bad (line_end >> pure n) n (one LineEnd) (IsFresh bad)
+    Takes-end n = Takes-last bad tt n (one LineEnd) (IsFresh bad) line_end (λ _. pure n) (Takes-line_end bad) (λ k. refl)
 
-    free_line : (word : List ℕ) (action : Action) → Takes names free_action action (one (Word word)) anywhere
-        → Takes names (declaration Free found) (record { text = text; action = action; role = role.Free }) (one (Word (codes "free")) ▸ one (Word text) ▸ one (Word word) ▸ one LineEnd) anywhere
+    line_taken : (line : NameLine) (word : List ℕ) (n : Naming) (M : Texts) → is_full line found ≡ false → Takes bad (after_text line text) n M (IsFresh bad)
+        → Takes bad (declaration line found) n (one (Word word) ▸ (lets.declared (declared found) text ▸ M)) (IsFresh bad)
     unfolding declaration
-    free_line word action takes =
-        Takes-to_right names _ _ _ anywhere (declaration Free found) n (Takes-to_right names _ _ _ anywhere (declaration Free found) n
-        (Takes-next names tt n (one (Word (codes "free"))) (one (Word text) ▸ (one (Word word) ▸ one LineEnd)) anywhere skip _ (Takes-skip names (Word (codes "free")))
-        (Takes-new found text (after_text Free) n (one (Word word) ▸ one LineEnd) anywhere new
-        (Takes-then names action n (one (Word word)) (one LineEnd) anywhere free_action (λ a. line_end >> pure (record { text = text; action = a; role = role.Free })) takes (Takes-end n)))))
+    line_taken line word n M room takes =
+        Takes-unless bad n (one (Word word) ▸ (lets.declared (declared found) text ▸ M)) (IsFresh bad) (is_full line found) TooMany (skip >> (new_name (declared found) >>= after_text line)) room
+        (Takes-next bad tt n (one (Word word)) (lets.declared (declared found) text ▸ M) (IsFresh bad) skip _ (Takes-skip bad (Word word))
+        (Takes-then bad text n (lets.declared (declared found) text) M (IsFresh bad) (new_name (declared found)) (after_text line) (Takes-new_name (declared found) text) takes))
+
+    free_line : (word : List ℕ) (action : Action) → is_full Free found ≡ false → Takes bad free_action action (one (Word word)) anywhere
+        → Takes bad (declaration Free found) (record { text = text; action = action; role = role.Free }) (one (Word (codes "free")) ▸ lets.declared (declared found) text ▸ one (Word word) ▸ one LineEnd) (IsFresh bad)
+    free_line word action room takes =
+        Takes-to_right bad _ _ _ (IsFresh bad) (declaration Free found) n (Takes-to_right bad _ _ _ (IsFresh bad) (declaration Free found) n
+        (line_taken Free (codes "free") n (one (Word word) ▸ one LineEnd) room
+        (Takes-then bad action n (one (Word word)) (one LineEnd) (IsFresh bad) free_action (λ a. line_end >> pure (record { text = text; action = a; role = role.Free })) takes (Takes-end n))))
       where
         n : Naming
         n = record { text = text; action = action; role = role.Free }
 
-    short_line : (line : NameLine) (word : List ℕ) (n : Naming) → Takes names (after_text line text) n (one LineEnd) anywhere → Takes names (declaration line found) n (one (Word word) ▸ one (Word text) ▸ one LineEnd) anywhere
-    unfolding declaration
-    short_line line word n takes =
-        Takes-to_right names _ _ _ anywhere (declaration line found) n
-        (Takes-next names tt n (one (Word word)) (one (Word text) ▸ one LineEnd) anywhere skip _ (Takes-skip names (Word word))
-        (Takes-new found text (after_text line) n (one LineEnd) anywhere new takes))
+    short_line : (line : NameLine) (word : List ℕ) (n : Naming) → is_full line found ≡ false → Takes bad (after_text line text) n (one LineEnd) (IsFresh bad)
+        → Takes bad (declaration line found) n (one (Word word) ▸ lets.declared (declared found) text ▸ one LineEnd) (IsFresh bad)
+    short_line line word n room takes = Takes-to_right bad _ _ _ (IsFresh bad) (declaration line found) n (line_taken line word n (one LineEnd) room takes)
 
-    -- the first word of a line, which four lexemes or three make
+    -- the first word of a line, which four parts or three make
     word_of_four : (word : List ℕ) (b c d : Texts) (i : Input) (used rest : List Lexeme) → shown i ≡ used ++ rest → (one (Word word) ▸ b ▸ c ▸ d) used → (back : List Lexeme) × (shown i ≡ Word word ∷ back)
     word_of_four word b c d i used rest e h =
         let k = joined_to_right (joined_to_right h) in
@@ -117,52 +171,89 @@ module _ (names : List Naming) where
         let k = joined_to_right h in
         (k.back ++ rest, e ∙ ap (λ ls. ls ++ rest) (k.parts ∙ ap (λ xs. xs ++ k.back) k.first))
 
-    take_line : (action : Action) (r : Role) (i : Input) (used rest : List Lexeme) → i.names ≡ names → shown i ≡ used ++ rest → grammar.name_line action r text used → TakenLine found i (record { text = text; action = action; role = r }) rest
-    take_line Shift role.Free i used rest here e h =
+    acts_room : (a : Action) (r : Role) → has_operator (record { text = text; action = a; role = r }) ≡ true → HasRoom found (record { text = text; action = a; role = r }) → acts_fully found ≡ false
+    acts_room a r has room =
+        let o = room.operators in
+        let small : count_by has_operator found + cond true 1 0 ≤ 4 = subst (λ (b : Bool). count_by has_operator found + cond b 1 0 ≤ 4) has o in
+        below_is 3 (count_by has_operator found) (omega (arith, small))
+
+    sums_room : (a : Action) → HasRoom found (record { text = text; action = a; role = role.Summed }) → sums_fully found ≡ false
+    sums_room a room = let s = room.summed in below_is 2 (length (summed_texts found)) (omega (arith, s))
+
+    both_false : (b c : Bool) → b ≡ false → c ≡ false → (b || c) ≡ false
+    both_false b c e f = ap (λ (x : Bool). x || c) e ∙ f
+
+    free_room : (a : Action) → has_operator (record { text = text; action = a; role = role.Free }) ≡ true → HasRoom found (record { text = text; action = a; role = role.Free }) → is_full Free found ≡ false
+    unfolding is_full
+    free_room a has room = acts_room a role.Free has room
+
+    sum_room : HasRoom found (record { text = text; action = Shift; role = role.Summed }) → is_full Sum found ≡ false
+    unfolding is_full
+    sum_room room = both_false (acts_fully found) (sums_fully found) (acts_room Shift role.Summed refl room) (sums_room Shift room)
+
+    int_room : HasRoom found (record { text = text; action = Derive; role = role.Summed }) → is_full Int found ≡ false
+    unfolding is_full
+    int_room room = both_false (acts_fully found) (sums_fully found) (acts_room Derive role.Summed refl room) (sums_room Derive room)
+
+    param_room : is_full Param found ≡ false
+    unfolding is_full
+    param_room = refl
+
+    take_line : (action : Action) (r : Role) (i : Input) (used rest : List Lexeme) → i.bad ≡ bad → shown i ≡ used ++ rest → HasRoom found (record { text = text; action = action; role = r }) → grammar.name_line found action r text used → IsFresh bad rest
+        → TakenLine found i (record { text = text; action = action; role = r }) rest
+    take_line Shift role.Free i used rest here e room h after =
         let w = word_of_four (codes "free") _ _ _ i used rest e h in
-        record { line = Free; begins = line_with (codes "free") i w.0 w.1; taken = free_line (codes "shift") Shift Takes-shift i used rest here e h tt }
-    take_line Derive role.Free i used rest here e h =
+        record { line = Free; begins = line_with (codes "free") i w.0 w.1; taken = free_line (codes "shift") Shift (free_room Shift refl room) Takes-shift i used rest here e h after }
+    take_line Derive role.Free i used rest here e room h after =
         let w = word_of_four (codes "free") _ _ _ i used rest e h in
-        record { line = Free; begins = line_with (codes "free") i w.0 w.1; taken = free_line (codes "diff") Derive Takes-diff i used rest here e h tt }
-    take_line Still role.Free i used rest here e h = absurd h
-    take_line Shift role.Summed i used rest here e h =
+        record { line = Free; begins = line_with (codes "free") i w.0 w.1; taken = free_line (codes "diff") Derive (free_room Derive refl room) Takes-diff i used rest here e h after }
+    take_line Still role.Free i used rest here e room h after = absurd h
+    take_line Shift role.Summed i used rest here e room h after =
         let w = word_of_three (codes "sum") _ _ i used rest e h in
-        record { line = Sum; begins = line_with (codes "sum") i w.0 w.1; taken = short_line Sum (codes "sum") (record { text = text; action = Shift; role = role.Summed }) (Takes-end (record { text = text; action = Shift; role = role.Summed })) i used rest here e h tt }
-    take_line Derive role.Summed i used rest here e h =
+        record { line = Sum; begins = line_with (codes "sum") i w.0 w.1; taken = short_line Sum (codes "sum") (record { text = text; action = Shift; role = role.Summed }) (sum_room room) (Takes-end (record { text = text; action = Shift; role = role.Summed })) i used rest here e h after }
+    take_line Derive role.Summed i used rest here e room h after =
         let w = word_of_three (codes "int") _ _ i used rest e h in
-        record { line = Int; begins = line_with (codes "int") i w.0 w.1; taken = short_line Int (codes "int") (record { text = text; action = Derive; role = role.Summed }) (Takes-end (record { text = text; action = Derive; role = role.Summed })) i used rest here e h tt }
-    take_line Still role.Summed i used rest here e h = absurd h
-    take_line Shift role.Param i used rest here e h = absurd h
-    take_line Derive role.Param i used rest here e h = absurd h
-    take_line Still role.Param i used rest here e h =
+        record { line = Int; begins = line_with (codes "int") i w.0 w.1; taken = short_line Int (codes "int") (record { text = text; action = Derive; role = role.Summed }) (int_room room) (Takes-end (record { text = text; action = Derive; role = role.Summed })) i used rest here e h after }
+    take_line Still role.Summed i used rest here e room h after = absurd h
+    take_line Shift role.Param i used rest here e room h after = absurd h
+    take_line Derive role.Param i used rest here e room h after = absurd h
+    take_line Still role.Param i used rest here e room h after =
         let w = word_of_three (codes "param") _ _ i used rest e h in
-        record { line = Param; begins = line_with (codes "param") i w.0 w.1; taken = short_line Param (codes "param") (record { text = text; action = Still; role = role.Param }) (Takes-end (record { text = text; action = Still; role = role.Param })) i used rest here e h tt }
+        record { line = Param; begins = line_with (codes "param") i w.0 w.1; taken = short_line Param (codes "param") (record { text = text; action = Still; role = role.Param }) param_room (Takes-end (record { text = text; action = Still; role = role.Param })) i used rest here e h after }
+
+  -- ---- the lines
 
   abbrev more_by : ℕ → List Naming → NameLine → Parser (List Naming)
   more_by n found line = declaration line found >>= (λ naming. declarations_from n (found ++ naming ∷ []))
 
-  Takes-declarations_from : (more found : List Naming) (n : ℕ) → length more ≤ n → Takes names (declarations_from n found) (found ++ more) (grammar.declarations found more) NoName
+  Takes-lines : (more found : List Naming) (n : ℕ) → length more ≤ n → count_by has_operator (found ++ more) ≤ 4 → length (summed_texts (found ++ more)) ≤ 3
+      → Takes bad (declarations_from n found) (found ++ more) (grammar.name_lines found more) (AfterLines bad 1)
   unfolding declarations_from
-  Takes-declarations_from [] found zero enough i used rest here e u after = Takes-value names nothing NoName (pure found) found (found ++ []) (sym (append-nil found)) (Takes-pure names found NoName) i used rest here e u after
-  Takes-declarations_from [] found (suc n) enough i used rest here e u after =
+  Takes-lines [] found zero enough operators summed i used rest here e u after =
       let here_shown : shown i ≡ rest = e ∙ ap (λ ls. ls ++ rest) u in
-      let none = name_line_by i false false false false
-      (sees_word-shown (codes "free") i ∙ ap (shows_word (codes "free")) here_shown ∙ after.no_free) (sees_word-shown (codes "sum") i ∙ ap (shows_word (codes "sum")) here_shown ∙ after.no_sum)
-      (sees_word-shown (codes "int") i ∙ ap (shows_word (codes "int")) here_shown ∙ after.no_int) (sees_word-shown (codes "param") i ∙ ap (shows_word (codes "param")) here_shown ∙ after.no_param) in
-      subst (λ (ns : List Naming). Taken names (declarations_from (suc n) found) i ns rest) (sym (append-nil found))
-      (record { left = i; reads = ap (λ (o : Option NameLine). declarations_by (more_by n found) found o i) none; shows = here_shown; declared = here })
-  Takes-declarations_from (m ∷ more) found zero enough i used rest here e h after = let no : ⊥ = omega (arith, enough) in absurd no
-  Takes-declarations_from (m ∷ more) found (suc n) enough i used rest here e h after =
+      let none = no_line bad i (subst (AfterLines bad 1) (sym here_shown) after) in
+      subst (λ (ns : List Naming). Taken (declarations_from zero found) i ns rest) (sym (append-nil found))
+      (record { left = i; reads = ap (λ (o : Option NameLine). full_by found o i) none; shows = here_shown; follows = Follows-same i })
+  Takes-lines [] found (suc n) enough operators summed i used rest here e u after =
+      let here_shown : shown i ≡ rest = e ∙ ap (λ ls. ls ++ rest) u in
+      let none = no_line bad i (subst (AfterLines bad 1) (sym here_shown) after) in
+      subst (λ (ns : List Naming). Taken (declarations_from (suc n) found) i ns rest) (sym (append-nil found))
+      (record { left = i; reads = ap (λ (o : Option NameLine). declarations_by (more_by n found) found o i) none; shows = here_shown; follows = Follows-same i })
+  Takes-lines (m ∷ more) found zero enough operators summed i used rest here e h after = let no : ⊥ = omega (arith, enough) in absurd no
+  Takes-lines (m ∷ more) found (suc n) enough operators summed i used rest here e h after =
       let split : shown i ≡ h.front ++ (h.back ++ rest) = e ∙ ap (λ ls. ls ++ rest) h.parts ∙ append_assoc h.front h.back rest in
-      let l = take_line found m.text h.first.0 m.action m.role i h.front (h.back ++ rest) here split h.first.1 in
-      let s = Takes-declarations_from more (found ++ m ∷ []) n (omega (arith, enough)) l.taken.left h.back rest l.taken.declared l.taken.shows h.second after in
-      let all = Taken-bind names (declaration l.line found) (λ naming. declarations_from n (found ++ naming ∷ [])) i m ((found ++ m ∷ []) ++ more) (h.back ++ rest) rest l.taken s in
-      subst (λ (ns : List Naming). Taken names (declarations_from (suc n) found) i ns rest) (append_assoc found (m ∷ []) more)
-      (record { left = all.left; reads = ap (λ (o : Option NameLine). declarations_by (more_by n found) found o i) l.begins ∙ all.reads; shows = all.shows; declared = all.declared })
+      let again : (found ++ m ∷ []) ++ more ≡ found ++ m ∷ more = append_assoc found (m ∷ []) more in
+      let l = take_line found m.text m.action m.role i h.front (h.back ++ rest) here split (room_is found more m operators summed) h.first (fresh_before bad h.back rest after.fresh) in
+      let s = Takes-lines more (found ++ m ∷ []) n (omega (arith, enough)) (subst (λ (ns : List Naming). count_by has_operator ns ≤ 4) (sym again) operators) (subst (λ (ns : List Naming). length (summed_texts ns) ≤ 3) (sym again) summed)
+      l.taken.left h.back rest (l.taken.follows.same_bad ∙ here) l.taken.shows h.second after in
+      let all = Taken-bind bad (declaration l.line found) (λ naming. declarations_from n (found ++ naming ∷ [])) i m ((found ++ m ∷ []) ++ more) (h.back ++ rest) rest l.taken s in
+      subst (λ (ns : List Naming). Taken (declarations_from (suc n) found) i ns rest) again
+      (record { left = all.left; reads = ap (λ (o : Option NameLine). declarations_by (more_by n found) found o i) l.begins ∙ all.reads; shows = all.shows; follows = all.follows })
 
-  pub Takes-names : (ns : List Naming) → length ns ≤ 6 → IsTrue (is_algebra ns) → Takes names form.names ns (grammar.header (codes "problem") ▸ grammar.declarations [] ns) NoName
-  unfolding form.names declarations name_lines
-  Takes-names ns few good =
-      Takes-next names tt ns (grammar.header (codes "problem")) (grammar.declarations [] ns) NoName (read.header (codes "problem")) _ (Takes-header names (codes "problem"))
-      (Takes-last names ns ns (grammar.declarations [] ns) NoName (declarations_from 6 []) (λ ms. cond (is_algebra ms) (pure ms) refuse) (Takes-declarations_from ns [] 6 few)
-      (λ k. ap (λ (b : Bool). cond b (pure ns) refuse k) good))
+  some_read : (ns : List Naming) → 0 < length ns → (i : Input) → some_names ns i ≡ Ok (ns, i)
+  some_read [] some i = let no : ⊥ = omega (arith, some) in absurd no
+  some_read (n ∷ ns) some i = refl
+
+  pub Takes-declarations : (ns : List Naming) → AreFew ns → Takes bad declarations ns (grammar.name_lines [] ns) (AfterLines bad 1)
+  unfolding declarations
+  Takes-declarations ns few = Takes-last bad ns ns (grammar.name_lines [] ns) (AfterLines bad 1) (declarations_from 6 []) some_names (Takes-lines ns [] 6 few.few few.few_operators few.few_summed) (some_read ns few.some)

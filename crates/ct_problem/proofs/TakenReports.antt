@@ -1,83 +1,90 @@
 -- Lexemes that stand for a report are read as that report. Main lemma `Takes-report`, line by line.
-use Rattle.std.proofs.Common.{◌≡◌, ℕ, suc, ◌+◌, ◌≤◌, true, false, List, [], ◌∷◌, ◌++◌, length, refl, sym, ap, ◌∙◌, arith, codes}
+use Rattle.std.proofs.Common.{◌≡◌, ℕ, suc, ◌+◌, ◌<◌, ◌≤◌, true, false, None, List, [], ◌∷◌, ◌++◌, length, refl, sym, ap, ◌∙◌, arith, codes}
 use Rattle.std.proofs.lemmas.List.{append_assoc, append-nil}
 use Rattle.ct_token.specs.declared.token.Token.{Token}
 use Rattle.ct_mono.specs.Limits.{largest_norm}
 use Rattle.ct_ore.specs.Naming.{Naming}
+use Rattle.ct_problem.specs.declared.fault.BadKind.TheVariants.{OutOfRange}
 use Rattle.ct_problem.specs.declared.expr.Expr.{Expr}
-use Rattle.ct_problem.specs.declared.first_form.Quotient.{Quotient}
-use Rattle.ct_problem.specs.declared.first_form.Report.{Report}
+use Rattle.ct_problem.specs.declared.report.Quotient.{Quotient}
+use Rattle.ct_problem.specs.declared.report.Report.{Report}
 use Rattle.ct_problem.specs.Input.{Input, Parser, ◌>>=◌, ◌>>◌, pure, expect, expect_word, line_end}
 use Rattle.ct_problem.specs.Number as digits
 use Rattle.ct_problem.specs.Lines as read
 use Rattle.ct_problem.specs.ReportLines as rules
 use Rattle.ct_problem.specs.Lexemes.{Word, Number, Sign, LineEnd, nothing, one, number, ◌▸◌, lexemes}
-use Rattle.ct_problem.specs.GrammarLines.{header, last_line, value, keyed, part, quotient, cofactor, cofactors, each_with, numbered, found_line}
+use Rattle.ct_problem.specs.Declarations.{declared}
+use Rattle.ct_problem.specs.GrammarProblem.{header, value, keyed}
+use Rattle.ct_problem.specs.GrammarReport.{last_line, part, quotient, cofactor, cofactors, each_with, numbered, found_line}
+use Rattle.ct_problem.specs.GrammarReport as grammar
+use Rattle.ct_problem.specs.Names.{Names, summed_texts}
 use Rattle.ct_problem.proofs.LexemeSteps.{shown}
 use Rattle.ct_problem.proofs.JoinedTexts.{to_nothing}
-use Rattle.ct_problem.proofs.Taking.{Takes, anywhere, Takes-pure, Takes-as, Takes-value, Takes-to_right, Takes-then, Takes-next, Takes-last, Takes-expect, Takes-expect_word, Takes-line_end, Takes-number, Takes-exactly}
+use Rattle.ct_problem.proofs.Taking.{Takes, anywhere, Takes-pure, Takes-as, Takes-value, Takes-to_right, Takes-then, Takes-next, Takes-last, Takes-expect, Takes-expect_word}
+use Rattle.ct_problem.proofs.TakenSteps.{Takes-line_end, Takes-number, Takes-exactly}
+use Rattle.ct_problem.proofs.Following.{Follows-same}
 use Rattle.ct_problem.proofs.TakenLines.{Takes-header, Takes-value_line, Takes-keyed, Takes-part}
 
-module _ (names : List Naming) where
-  Takes-numbered : (key : List ℕ) (n : ℕ) → Takes names (rules.numbered key) n (numbered key n) anywhere
-  Takes-numbered key n = Takes-next names tt n (one (Word key)) (number 65535 n) anywhere (expect_word key) _ (Takes-expect_word names key) (Takes-number names 65535 n (omega arith))
+module _ (names : Names) where
+  Takes-numbered : (key : List ℕ) (n : ℕ) → Takes None (rules.numbered key) n (numbered key n) anywhere
+  Takes-numbered key n = Takes-next None tt n (one (Word key)) (number 65535 n) anywhere (expect_word key) _ (Takes-expect_word None key) (Takes-number None 65535 n OutOfRange (omega arith))
 
-  Takes-found_line : (index order degree : ℕ) → Takes names rules.found_line (index, order, degree) (found_line index order degree) anywhere
+  Takes-found_line : (index order degree : ℕ) → Takes None rules.found_line (index, order, degree) (found_line index order degree) anywhere
   unfolding rules.found_line
   Takes-found_line index order degree =
-      Takes-to_right names _ _ _ anywhere rules.found_line (index, order, degree)
-      (Takes-to_right names _ _ _ anywhere rules.found_line (index, order, degree)
-      (Takes-then names index (index, order, degree) (numbered (codes "found") index) (numbered (codes "order") order ▸ (numbered (codes "degree") degree ▸ one LineEnd)) anywhere (rules.numbered (codes "found"))
+      Takes-to_right None _ _ _ anywhere rules.found_line (index, order, degree)
+      (Takes-to_right None _ _ _ anywhere rules.found_line (index, order, degree)
+      (Takes-then None index (index, order, degree) (numbered (codes "found") index) (numbered (codes "order") order ▸ (numbered (codes "degree") degree ▸ one LineEnd)) anywhere (rules.numbered (codes "found"))
       (λ i. rules.numbered (codes "order") >>= (λ r. rules.numbered (codes "degree") >>= (λ t. line_end >> pure (i, r, t)))) (Takes-numbered (codes "found") index)
-      (Takes-then names order (index, order, degree) (numbered (codes "order") order) (numbered (codes "degree") degree ▸ one LineEnd) anywhere (rules.numbered (codes "order"))
+      (Takes-then None order (index, order, degree) (numbered (codes "order") order) (numbered (codes "degree") degree ▸ one LineEnd) anywhere (rules.numbered (codes "order"))
       (λ r. rules.numbered (codes "degree") >>= (λ t. line_end >> pure (index, r, t))) (Takes-numbered (codes "order") order)
-      (Takes-then names degree (index, order, degree) (numbered (codes "degree") degree) (one LineEnd) anywhere (rules.numbered (codes "degree"))
+      (Takes-then None degree (index, order, degree) (numbered (codes "degree") degree) (one LineEnd) anywhere (rules.numbered (codes "degree"))
       (λ t. line_end >> pure (index, order, t)) (Takes-numbered (codes "degree") degree)
-      (Takes-last names tt (index, order, degree) (one LineEnd) anywhere line_end (λ _. pure (index, order, degree)) (Takes-line_end names) (λ k. refl))))))
+      (Takes-last None tt (index, order, degree) (one LineEnd) anywhere line_end (λ _. pure (index, order, degree)) (Takes-line_end None) (λ k. refl))))))
 
-  Takes-quotient : (text : List ℕ) (q : Quotient) → Takes names (rules.quotient text) q (quotient names text q) anywhere
+  Takes-quotient : (text : List ℕ) (q : Quotient) → Takes None (rules.quotient names text) q (quotient names text q) anywhere
   unfolding rules.quotient
   Takes-quotient text q =
-      Takes-then names q.numerator q (part names (codes "numerator") true text q.numerator) (part names (codes "denominator") false text q.denominator) anywhere (read.part (codes "numerator") text true)
-      (λ n. read.part (codes "denominator") text false >>= (λ d. pure (record { numerator = n; denominator = d }))) (Takes-part names (codes "numerator") text true q.numerator)
-      (Takes-last names q.denominator q (part names (codes "denominator") false text q.denominator) anywhere (read.part (codes "denominator") text false) (λ d. pure (record { numerator = q.numerator; denominator = d }))
-      (Takes-part names (codes "denominator") text false q.denominator) (λ k. refl))
+      Takes-then None q.numerator q (part names (codes "numerator") true text q.numerator) (part names (codes "denominator") false text q.denominator) anywhere (read.part names (codes "numerator") text true)
+      (λ n. read.part names (codes "denominator") text false >>= (λ d. pure (record { numerator = n; denominator = d }))) (Takes-part None names (codes "numerator") text true q.numerator)
+      (Takes-last None q.denominator q (part names (codes "denominator") false text q.denominator) anywhere (read.part names (codes "denominator") text false) (λ d. pure (record { numerator = q.numerator; denominator = d }))
+      (Takes-part None names (codes "denominator") text false q.denominator) (λ k. refl))
 
-  Takes-quotients : (texts : List (List ℕ)) (more found : List Quotient) → Takes names (rules.quotients_from texts found) (found ++ more) (each_with (quotient names) texts more) anywhere
+  Takes-quotients : (texts : List (List ℕ)) (more found : List Quotient) → Takes None (rules.quotients_from names texts found) (found ++ more) (each_with (quotient names) texts more) anywhere
   unfolding rules.quotients_from
-  Takes-quotients [] [] found = Takes-value names nothing anywhere (pure found) found (found ++ []) (sym (append-nil found)) (Takes-pure names found anywhere)
+  Takes-quotients [] [] found = Takes-value None nothing anywhere (pure found) found (found ++ []) (sym (append-nil found)) (Takes-pure None found anywhere)
   Takes-quotients [] (q ∷ more) found = λ i used rest here e u after. absurd u
   Takes-quotients (text ∷ texts) [] found = λ i used rest here e u after. absurd u
   Takes-quotients (text ∷ texts) (q ∷ more) found =
-      Takes-value names (quotient names text q ▸ each_with (quotient names) texts more) anywhere (rules.quotients_from (text ∷ texts) found) ((found ++ q ∷ []) ++ more) (found ++ q ∷ more) (append_assoc found (q ∷ []) more)
-      (Takes-then names q ((found ++ q ∷ []) ++ more) (quotient names text q) (each_with (quotient names) texts more) anywhere (rules.quotient text) (λ r. rules.quotients_from texts (found ++ r ∷ [])) (Takes-quotient text q)
+      Takes-value None (quotient names text q ▸ each_with (quotient names) texts more) anywhere (rules.quotients_from names (text ∷ texts) found) ((found ++ q ∷ []) ++ more) (found ++ q ∷ more) (append_assoc found (q ∷ []) more)
+      (Takes-then None q ((found ++ q ∷ []) ++ more) (quotient names text q) (each_with (quotient names) texts more) anywhere (rules.quotient names text) (λ r. rules.quotients_from names texts (found ++ r ∷ [])) (Takes-quotient text q)
       (Takes-quotients texts more (found ++ q ∷ [])))
 
-  Takes-factors_of : (texts : List (List ℕ)) (more found : List Expr) → Takes names (rules.factors_of texts found) (found ++ more) (each_with (part names (codes "part") false) texts more) anywhere
+  Takes-factors_of : (texts : List (List ℕ)) (more found : List Expr) → Takes None (rules.factors_of names texts found) (found ++ more) (each_with (part names (codes "part") false) texts more) anywhere
   unfolding rules.factors_of
-  Takes-factors_of [] [] found = Takes-value names nothing anywhere (pure found) found (found ++ []) (sym (append-nil found)) (Takes-pure names found anywhere)
+  Takes-factors_of [] [] found = Takes-value None nothing anywhere (pure found) found (found ++ []) (sym (append-nil found)) (Takes-pure None found anywhere)
   Takes-factors_of [] (x ∷ more) found = λ i used rest here e u after. absurd u
   Takes-factors_of (text ∷ texts) [] found = λ i used rest here e u after. absurd u
   Takes-factors_of (text ∷ texts) (x ∷ more) found =
-      Takes-value names (part names (codes "part") false text x ▸ each_with (part names (codes "part") false) texts more) anywhere (rules.factors_of (text ∷ texts) found) ((found ++ x ∷ []) ++ more) (found ++ x ∷ more) (append_assoc found (x ∷ []) more)
-      (Takes-then names x ((found ++ x ∷ []) ++ more) (part names (codes "part") false text x) (each_with (part names (codes "part") false) texts more) anywhere (read.part (codes "part") text false) (λ y. rules.factors_of texts (found ++ y ∷ [])) (Takes-part names (codes "part") text false x)
+      Takes-value None (part names (codes "part") false text x ▸ each_with (part names (codes "part") false) texts more) anywhere (rules.factors_of names (text ∷ texts) found) ((found ++ x ∷ []) ++ more) (found ++ x ∷ more) (append_assoc found (x ∷ []) more)
+      (Takes-then None x ((found ++ x ∷ []) ++ more) (part names (codes "part") false text x) (each_with (part names (codes "part") false) texts more) anywhere (read.part names (codes "part") text false) (λ y. rules.factors_of names texts (found ++ y ∷ [])) (Takes-part None names (codes "part") text false x)
       (Takes-factors_of texts more (found ++ x ∷ [])))
 
-  Takes-cofactor : (place : ℕ) (x : Expr) → place ≤ largest_norm → Takes names (rules.cofactor place) x (cofactor names place x) anywhere
+  Takes-cofactor : (place : ℕ) (x : Expr) → place ≤ largest_norm → Takes None (rules.cofactor names place) x (cofactor names place x) anywhere
   unfolding rules.cofactor
   Takes-cofactor place x low =
-      Takes-to_right names _ _ _ anywhere (rules.cofactor place) x
-      (Takes-to_right names _ _ _ anywhere (rules.cofactor place) x
-      (Takes-next names tt x (one (Word (codes "cofactor"))) (one (Number place) ▸ (one (Sign 58) ▸ value names true x)) anywhere (expect_word (codes "cofactor")) _ (Takes-expect_word names (codes "cofactor"))
-      (Takes-next names tt x (one (Number place)) (one (Sign 58) ▸ value names true x) anywhere (digits.exactly place) _ (Takes-exactly names place low)
-      (Takes-next names tt x (one (Sign 58)) (value names true x) anywhere (expect 58) _ (Takes-expect names 58) (Takes-value_line names true x)))))
+      Takes-to_right None _ _ _ anywhere (rules.cofactor names place) x
+      (Takes-to_right None _ _ _ anywhere (rules.cofactor names place) x
+      (Takes-next None tt x (one (Word (codes "cofactor"))) (one (Number place) ▸ (one (Sign 58) ▸ value names true x)) anywhere (expect_word (codes "cofactor")) _ (Takes-expect_word None (codes "cofactor"))
+      (Takes-next None tt x (one (Number place)) (one (Sign 58) ▸ value names true x) anywhere (digits.exactly place) _ (Takes-exactly None place low)
+      (Takes-next None tt x (one (Sign 58)) (value names true x) anywhere (expect 58) _ (Takes-expect None 58) (Takes-value_line None names true x)))))
 
-  Takes-cofactors : (place : ℕ) (more found : List Expr) → place + length more ≤ largest_norm → Takes names (rules.cofactors_from place (length more) found) (found ++ more) (cofactors names place more) anywhere
+  Takes-cofactors : (place : ℕ) (more found : List Expr) → place + length more ≤ largest_norm → Takes None (rules.cofactors_from names place (length more) found) (found ++ more) (cofactors names place more) anywhere
   unfolding rules.cofactors_from
-  Takes-cofactors place [] found low = Takes-value names nothing anywhere (pure found) found (found ++ []) (sym (append-nil found)) (Takes-pure names found anywhere)
+  Takes-cofactors place [] found low = Takes-value None nothing anywhere (pure found) found (found ++ []) (sym (append-nil found)) (Takes-pure None found anywhere)
   Takes-cofactors place (x ∷ more) found low =
-      Takes-value names (cofactors names place (x ∷ more)) anywhere (rules.cofactors_from place (suc (length more)) found) ((found ++ x ∷ []) ++ more) (found ++ x ∷ more) (append_assoc found (x ∷ []) more)
-      (Takes-then names x ((found ++ x ∷ []) ++ more) (cofactor names place x) (cofactors names (place + 1) more) anywhere (rules.cofactor place) (λ y. rules.cofactors_from (place + 1) (length more) (found ++ y ∷ [])) (Takes-cofactor place x (omega (arith, low)))
+      Takes-value None (cofactors names place (x ∷ more)) anywhere (rules.cofactors_from names place (suc (length more)) found) ((found ++ x ∷ []) ++ more) (found ++ x ∷ more) (append_assoc found (x ∷ []) more)
+      (Takes-then None x ((found ++ x ∷ []) ++ more) (cofactor names place x) (cofactors names (place + 1) more) anywhere (rules.cofactor names place) (λ y. rules.cofactors_from names (place + 1) (length more) (found ++ y ∷ [])) (Takes-cofactor place x (omega (arith, low)))
       (Takes-cofactors (place + 1) more (found ++ x ∷ []) (omega (arith, low))))
 
   -- no token is left where no lexeme is
@@ -88,54 +95,57 @@ module _ (names : List Naming) where
       by [] e = refl
       by (t ∷ ts) e = cc
 
-  Takes-at_end : Takes names rules.at_end tt nothing nothing
+  Takes-at_end : Takes None rules.at_end tt nothing nothing
   unfolding rules.at_end
   Takes-at_end i used rest here e u after =
       let none : shown i ≡ [] = e ∙ ap (λ ls. ls ++ rest) u ∙ after in
-      record { left = i; reads = ap (λ (left : List Token). rules.at_end_by left i) (none_left i none); shows = none ∙ sym after; declared = here }
+      record { left = i; reads = ap (λ (left : List Token). rules.at_end_by left i) (none_left i none); shows = none ∙ sym after; follows = Follows-same i }
 
-  Takes-finish : Takes names rules.finish tt last_line nothing
+  Takes-finish : Takes None rules.finish tt last_line nothing
   unfolding rules.finish
   Takes-finish =
-      Takes-next names tt tt (one (Word (codes "end"))) (one LineEnd) nothing (expect_word (codes "end")) _ (Takes-expect_word names (codes "end"))
-      (Takes-as names (one LineEnd ▸ nothing) (one LineEnd) nothing nothing (line_end >> rules.at_end) tt (λ ls h. to_nothing h) (λ rest a. a)
-      (Takes-next names tt tt (one LineEnd) nothing nothing line_end _ (Takes-line_end names) Takes-at_end))
+      Takes-next None tt tt (one (Word (codes "end"))) (one LineEnd) nothing (expect_word (codes "end")) _ (Takes-expect_word None (codes "end"))
+      (Takes-as None (one LineEnd ▸ nothing) (one LineEnd) nothing nothing (line_end >> rules.at_end) tt (λ ls h. to_nothing h) (λ rest a. a)
+      (Takes-next None tt tt (one LineEnd) nothing nothing line_end _ (Takes-line_end None) Takes-at_end))
 
-  -- a report, with the texts of the summed names
-  pub Takes-report : (summed : List (List ℕ)) (r : Report) → length r.cofactors ≤ 16
-      → Takes names (rules.report summed (length r.cofactors)) r
-      (header (codes "report") ▸ found_line r.index r.order r.degree ▸ keyed names (codes "telescoper") true r.telescoper ▸ each_with (quotient names) summed r.quotients
-      ▸ keyed names (codes "scale") false r.scale ▸ each_with (part names (codes "part") false) summed r.factors ▸ cofactors names 1 r.cofactors ▸ last_line) nothing
-  unfolding rules.report
-  Takes-report summed r few =
-      Takes-to_right names _ _ _ nothing p r (Takes-to_right names _ _ _ nothing p r (Takes-to_right names _ _ _ nothing p r
-      (Takes-to_right names _ _ _ nothing p r (Takes-to_right names _ _ _ nothing p r (Takes-to_right names _ _ _ nothing p r
-      (Takes-next names tt r (header (codes "report")) _ nothing (read.header (codes "report")) _ (Takes-header names (codes "report"))
-      (Takes-then names (r.index, r.order, r.degree) r (found_line r.index r.order r.degree) _ nothing rules.found_line after_place (Takes-found_line r.index r.order r.degree)
-      (Takes-then names r.telescoper r (keyed names (codes "telescoper") true r.telescoper) _ nothing (rules.keyed (codes "telescoper") true) (after_telescoper (r.index, r.order, r.degree)) (Takes-keyed names (codes "telescoper") true r.telescoper)
-      (Takes-then names r.quotients r (each_with (quotient names) summed r.quotients) _ nothing (rules.quotients_from summed []) (after_quotients (r.index, r.order, r.degree) r.telescoper) (Takes-quotients summed r.quotients [])
-      (Takes-then names r.scale r (keyed names (codes "scale") false r.scale) _ nothing (rules.keyed (codes "scale") false) (after_scale (r.index, r.order, r.degree) r.telescoper r.quotients) (Takes-keyed names (codes "scale") false r.scale)
-      (Takes-then names r.factors r (each_with (part names (codes "part") false) summed r.factors) _ nothing (rules.factors_of summed []) (after_factors (r.index, r.order, r.degree) r.telescoper r.quotients r.scale) (Takes-factors_of summed r.factors [])
-      (Takes-then names r.cofactors r (cofactors names 1 r.cofactors) last_line nothing (rules.cofactors_from 1 (length r.cofactors) []) (after_cofactors (r.index, r.order, r.degree) r.telescoper r.quotients r.scale r.factors) (Takes-cofactors 1 r.cofactors [] (omega (arith, few)))
-      (Takes-last names tt r last_line nothing rules.finish (λ _. pure r) Takes-finish (λ k. refl))))))))))))))
-    where
-      p : Parser Report
-      p = rules.report summed (length r.cofactors)
+-- a report under these names
+pub Takes-report : (variables : List Naming) (r : Report) → length r.cofactors < largest_norm → Takes None (rules.report variables (length r.cofactors)) r (grammar.report variables r) nothing
+unfolding rules.report
+Takes-report variables r few =
+    Takes-to_right None _ _ _ nothing p r (Takes-to_right None _ _ _ nothing p r (Takes-to_right None _ _ _ nothing p r
+    (Takes-to_right None _ _ _ nothing p r (Takes-to_right None _ _ _ nothing p r (Takes-to_right None _ _ _ nothing p r
+    (Takes-next None tt r (header (codes "report")) _ nothing (read.header (codes "report")) _ (Takes-header None (codes "report"))
+    (Takes-then None (r.index, r.order, r.degree) r (found_line r.index r.order r.degree) _ nothing rules.found_line after_place (Takes-found_line names r.index r.order r.degree)
+    (Takes-then None r.telescoper r (keyed names (codes "telescoper") true r.telescoper) _ nothing (rules.keyed names (codes "telescoper") true) (after_telescoper (r.index, r.order, r.degree)) (Takes-keyed None names (codes "telescoper") true r.telescoper)
+    (Takes-then None r.quotients r (each_with (quotient names) summed r.quotients) _ nothing (rules.quotients_from names summed []) (after_quotients (r.index, r.order, r.degree) r.telescoper) (Takes-quotients names summed r.quotients [])
+    (Takes-then None r.scale r (keyed names (codes "scale") false r.scale) _ nothing (rules.keyed names (codes "scale") false) (after_scale (r.index, r.order, r.degree) r.telescoper r.quotients) (Takes-keyed None names (codes "scale") false r.scale)
+    (Takes-then None r.factors r (each_with (part names (codes "part") false) summed r.factors) _ nothing (rules.factors_of names summed []) (after_factors (r.index, r.order, r.degree) r.telescoper r.quotients r.scale) (Takes-factors_of names summed r.factors [])
+    (Takes-then None r.cofactors r (cofactors names 1 r.cofactors) last_line nothing (rules.cofactors_from names 1 (length r.cofactors) []) (after_cofactors (r.index, r.order, r.degree) r.telescoper r.quotients r.scale r.factors) (Takes-cofactors names 1 r.cofactors [] (omega (arith, few)))
+    (Takes-last None tt r last_line nothing rules.finish (λ _. pure r) (Takes-finish names) (λ k. refl))))))))))))))
+  where
+    names : Names
+    names = declared variables
 
-      after_cofactors : ℕ × ℕ × ℕ → Expr → List Quotient → Expr → List Expr → List Expr → Parser Report
-      after_cofactors place telescoper quotients scale factors xs = rules.finish >> pure (record { index = place.0; order = place.1; degree = place.2; telescoper = telescoper; quotients = quotients; scale = scale; factors = factors; cofactors = xs })
+    summed : List (List ℕ)
+    summed = summed_texts variables
 
-      after_factors : ℕ × ℕ × ℕ → Expr → List Quotient → Expr → List Expr → Parser Report
-      after_factors place telescoper quotients scale factors = rules.cofactors_from 1 (length r.cofactors) [] >>= after_cofactors place telescoper quotients scale factors
+    p : Parser Report
+    p = rules.report variables (length r.cofactors)
 
-      after_scale : ℕ × ℕ × ℕ → Expr → List Quotient → Expr → Parser Report
-      after_scale place telescoper quotients scale = rules.factors_of summed [] >>= after_factors place telescoper quotients scale
+    after_cofactors : ℕ × ℕ × ℕ → Expr → List Quotient → Expr → List Expr → List Expr → Parser Report
+    after_cofactors place telescoper quotients scale factors xs = rules.finish >> pure (record { index = place.0; order = place.1; degree = place.2; telescoper = telescoper; quotients = quotients; scale = scale; factors = factors; cofactors = xs })
 
-      after_quotients : ℕ × ℕ × ℕ → Expr → List Quotient → Parser Report
-      after_quotients place telescoper quotients = rules.keyed (codes "scale") false >>= after_scale place telescoper quotients
+    after_factors : ℕ × ℕ × ℕ → Expr → List Quotient → Expr → List Expr → Parser Report
+    after_factors place telescoper quotients scale factors = rules.cofactors_from names 1 (length r.cofactors) [] >>= after_cofactors place telescoper quotients scale factors
 
-      after_telescoper : ℕ × ℕ × ℕ → Expr → Parser Report
-      after_telescoper place telescoper = rules.quotients_from summed [] >>= after_quotients place telescoper
+    after_scale : ℕ × ℕ × ℕ → Expr → List Quotient → Expr → Parser Report
+    after_scale place telescoper quotients scale = rules.factors_of names summed [] >>= after_factors place telescoper quotients scale
 
-      after_place : ℕ × ℕ × ℕ → Parser Report
-      after_place place = rules.keyed (codes "telescoper") true >>= after_telescoper place
+    after_quotients : ℕ × ℕ × ℕ → Expr → List Quotient → Parser Report
+    after_quotients place telescoper quotients = rules.keyed names (codes "scale") false >>= after_scale place telescoper quotients
+
+    after_telescoper : ℕ × ℕ × ℕ → Expr → Parser Report
+    after_telescoper place telescoper = rules.quotients_from names summed [] >>= after_quotients place telescoper
+
+    after_place : ℕ × ℕ × ℕ → Parser Report
+    after_place place = rules.keyed names (codes "telescoper") true >>= after_telescoper place

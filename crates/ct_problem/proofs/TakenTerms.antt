@@ -1,25 +1,26 @@
 -- Lexemes that stand for a term are read as that term. Main lemma `Takes-term`, rule by rule.
-use Rattle.std.proofs.Common.{◌≡◌, ℕ, zero, suc, ◌-◌, ◌<◌, ◌≤◌, Bool, true, false, cond, List, [], ◌∷◌, ◌++◌, length, refl, sym, ap, ◌∙◌, subst, arith, codes, length-append}
+use Rattle.std.proofs.Common.{◌≡◌, ℕ, zero, suc, ◌≤◌, Bool, true, false, cond, List, [], ◌∷◌, ◌++◌, length, Option, refl, sym, ap, subst, arith, codes, length-append}
 use Rattle.std.proofs.lemmas.List.{append_assoc}
 use Rattle.ct_mono.specs.Limits.{largest_degree}
-use Rattle.ct_ore.specs.Naming.{Naming}
 use Rattle.ct_problem.specs.declared.expr.Expr.{Expr}
 use Rattle.ct_problem.specs.declared.expr.Expr.TheVariants as expr
+use Rattle.ct_problem.specs.declared.fault.BadKind.TheVariants.{ExponentTooLarge}
 use Rattle.ct_problem.specs.Input.{Input, Parser, ◌>>=◌, pure, eat}
 use Rattle.ct_problem.specs.Number as digits
+use Rattle.ct_problem.specs.Names.{Names}
 use Rattle.ct_problem.specs.Expressions.{product_of, atom, factor, factors_from, term}
 use Rattle.ct_problem.specs.Lexemes.{Lexeme, Word, Number, Sign, Texts, nothing, one, number, ◌▸◌, each}
 use Rattle.ct_problem.specs.Grammar.{IsAtom, IsFactor, IsTerm, IsMoreFactor}
 use Rattle.ct_problem.proofs.LexemeSteps.{shown, shows_sign}
 use Rattle.ct_problem.proofs.JoinedTexts.{joined_to_right, on_second, to_nothing}
-use Rattle.ct_problem.proofs.Taking.{Taken, Takes, anywhere, Takes-as, Takes-value, Takes-to_right, Takes-bind, Takes-then, Takes-last, Takes-eat, Takes-no_sign, Takes-number}
-use Rattle.ct_problem.proofs.Turns.{deeper}
-use Rattle.ct_problem.proofs.LexemeStarts.{Opens, Opens-joined, Opens-one, Opens-some, each-length, begun-length, begun-shows, length-shown, AfterFactor, AfterTerm}
+use Rattle.ct_problem.proofs.Taking.{Taken, Takes, anywhere, Takes-as, Takes-value, Takes-to_right, Takes-bind, Takes-then, Takes-last, Takes-eat, Takes-no_sign}
+use Rattle.ct_problem.proofs.TakenSteps.{Takes-number}
+use Rattle.ct_problem.proofs.LexemeStarts.{Opens, Opens-joined, Opens-one, each-length, begun-length, begun-shows, length-shown, AfterAtom, AfterFactor, AfterTerm, after_factor}
 use Rattle.ct_problem.proofs.TakenAtoms.{Takes-atom}
 
-module _ (names : List Naming) where
+module _ (bad : Option ℕ) (names : Names) where
   module _ (operators : Bool) (inner : Parser Expr) (InParentheses : Expr → Texts)
-      (inner_takes : (x : Expr) → Takes names inner x (InParentheses x) anywhere)
+      (inner_takes : (x : Expr) → Takes bad inner x (InParentheses x) anywhere)
       (inner_opens : (x : Expr) (ls : List Lexeme) → InParentheses x ls → (back : List Lexeme) × (ls ≡ Sign 40 ∷ back)) where
     -- the sets of the rules
     abbrev Atom : Expr → Texts
@@ -41,6 +42,7 @@ module _ (names : List Naming) where
 
     atom_opens : (x : Expr) (ls : List Lexeme) → Atom x ls → Opens ls
     atom_opens x ls (IsAtom.whole n value u) = Opens-one (Number n) ls u.1 (λ rest. refl)
+    atom_opens x ls (IsAtom.ratio n d value some u) = Opens-joined u (Opens-joined u.first (Opens-one (Number n) u.first.front u.first.first.1 (λ rest. refl)))
     atom_opens x ls (IsAtom.variable letters at known value u) = Opens-one (Word letters) ls u (λ rest. refl)
     atom_opens x ls (IsAtom.shift letters at allowed acts value u) = symbol_opens (codes "S") letters ls u
     atom_opens x ls (IsAtom.derivation letters at allowed acts value u) = symbol_opens (codes "D") letters ls u
@@ -56,44 +58,47 @@ module _ (names : List Naming) where
     -- ---- factors and terms
 
     abbrev power_by : Expr → Bool → Parser Expr
-    power_by base is_power = cond is_power (digits.number largest_degree >>= (λ n. pure (expr.Power base n))) (pure base)
+    power_by base is_power = cond is_power (digits.number largest_degree ExponentTooLarge >>= (λ n. pure (expr.Power base n))) (pure base)
 
     abbrev powered : Expr → Parser Expr
     powered base = eat 94 >>= power_by base
 
-    Takes-factor : (x : Expr) → Takes names (factor operators inner) x (Factor x) AfterFactor
+    Takes-factor : (x : Expr) → Takes bad (factor names operators inner) x (Factor x) AfterFactor
     unfolding factor
     Takes-factor x i used rest here e (IsFactor.plain u) after =
-        Takes-bind names x x (Atom x) nothing anywhere AfterFactor (atom operators inner) powered (Takes-atom names operators inner InParentheses inner_takes inner_opens x)
-        (Takes-last names false x nothing AfterFactor (eat 94) (power_by x) (Takes-no_sign names 94) (λ k. refl)) (λ back rest m after. tt) i used rest here e (to_nothing u) after
+        Takes-bind bad x x (Atom x) nothing AfterAtom AfterFactor (atom names operators inner) powered (Takes-atom bad names operators inner InParentheses inner_takes inner_opens x)
+        (Takes-as bad nothing nothing (λ rest. shows_sign 94 rest ≡ false) AfterFactor (powered x) x (λ ls m. m) (λ rest a. a.no_power)
+        (Takes-last bad false x nothing (λ rest. shows_sign 94 rest ≡ false) (eat 94) (power_by x) (Takes-no_sign bad 94) (λ k. refl)))
+        (λ back rest m after. subst (λ (ls : List Lexeme). AfterAtom (ls ++ rest)) (sym m) after.no_divisor) i used rest here e (to_nothing u) after
     Takes-factor x i used rest here e (IsFactor.power base n value u) after =
-        subst (λ (y : Expr). Taken names (factor operators inner) i y rest) (sym value)
-        (Takes-to_right names (Atom base) (one (Sign 94)) (number largest_degree n) anywhere (factor operators inner) (expr.Power base n)
-        (Takes-then names base (expr.Power base n) (Atom base) (one (Sign 94) ▸ number largest_degree n) anywhere (atom operators inner) powered (Takes-atom names operators inner InParentheses inner_takes inner_opens base)
-        (Takes-then names true (expr.Power base n) (one (Sign 94)) (number largest_degree n) anywhere (eat 94) (power_by base) (Takes-eat names 94)
-        (Takes-last names n (expr.Power base n) (number largest_degree n) anywhere (digits.number largest_degree) (λ m. pure (expr.Power base m)) (Takes-number names largest_degree n (omega arith)) (λ k. refl))))
+        subst (λ (y : Expr). Taken (factor names operators inner) i y rest) (sym value)
+        (Takes-to_right bad (Atom base) (one (Sign 94)) (number largest_degree n) anywhere (factor names operators inner) (expr.Power base n)
+        (Takes-bind bad base (expr.Power base n) (Atom base) (one (Sign 94) ▸ number largest_degree n) AfterAtom anywhere (atom names operators inner) powered (Takes-atom bad names operators inner InParentheses inner_takes inner_opens base)
+        (Takes-then bad true (expr.Power base n) (one (Sign 94)) (number largest_degree n) anywhere (eat 94) (power_by base) (Takes-eat bad 94)
+        (Takes-last bad n (expr.Power base n) (number largest_degree n) anywhere (digits.number largest_degree ExponentTooLarge) (λ m. pure (expr.Power base m)) (Takes-number bad largest_degree n ExponentTooLarge (omega arith)) (λ k. refl)))
+        (λ back rest h after. begun-shows (Sign 94) back rest AfterAtom h (λ ls. refl)))
         i used rest here e u tt)
 
     abbrev factors_by : ℕ → List Expr → Expr → Bool → Parser Expr
-    factors_by n found x more = cond more (factors_from operators inner n (found ++ x ∷ [])) (pure (product_of (found ++ x ∷ [])))
+    factors_by n found x more = cond more (factors_from names operators inner n (found ++ x ∷ [])) (pure (product_of (found ++ x ∷ [])))
 
-    Takes-factors : (more : List Expr) (first : Expr) (found : List Expr) (n : ℕ) → length more ≤ n → Takes names (factors_from operators inner (suc n) found) (product_of (found ++ first ∷ more)) (Factor first ▸ each MoreFactor more) AfterTerm
+    Takes-factors : (more : List Expr) (first : Expr) (found : List Expr) (n : ℕ) → length more ≤ n → Takes bad (factors_from names operators inner (suc n) found) (product_of (found ++ first ∷ more)) (Factor first ▸ each MoreFactor more) AfterTerm
     unfolding factors_from
     Takes-factors [] first found n enough =
-        Takes-bind names first (product_of (found ++ first ∷ [])) (Factor first) nothing AfterFactor AfterTerm (factor operators inner) (λ x. eat 42 >>= factors_by n found x) (Takes-factor first)
-        (Takes-as names nothing nothing (λ rest. shows_sign 42 rest ≡ false) AfterTerm (eat 42 >>= factors_by n found first) (product_of (found ++ first ∷ [])) (λ ls m. m) (λ rest a. a.no_factor)
-        (Takes-last names false (product_of (found ++ first ∷ [])) nothing (λ rest. shows_sign 42 rest ≡ false) (eat 42) (factors_by n found first) (Takes-no_sign names 42) (λ k. refl)))
-        (λ back rest m after. subst (λ (ls : List Lexeme). AfterFactor (ls ++ rest)) (sym m) after.no_power)
+        Takes-bind bad first (product_of (found ++ first ∷ [])) (Factor first) nothing AfterFactor AfterTerm (factor names operators inner) (λ x. eat 42 >>= factors_by n found x) (Takes-factor first)
+        (Takes-as bad nothing nothing (λ rest. shows_sign 42 rest ≡ false) AfterTerm (eat 42 >>= factors_by n found first) (product_of (found ++ first ∷ [])) (λ ls m. m) (λ rest a. a.no_factor)
+        (Takes-last bad false (product_of (found ++ first ∷ [])) nothing (λ rest. shows_sign 42 rest ≡ false) (eat 42) (factors_by n found first) (Takes-no_sign bad 42) (λ k. refl)))
+        (λ back rest m after. subst (λ (ls : List Lexeme). AfterFactor (ls ++ rest)) (sym m) (after_factor rest after))
     Takes-factors (y ∷ more) first found zero enough = let no : ⊥ = omega (arith, enough) in absurd no
     Takes-factors (y ∷ more) first found (suc n) enough =
-        Takes-as names (Factor first ▸ (one (Sign 42) ▸ (Factor y ▸ each MoreFactor more))) (Factor first ▸ each MoreFactor (y ∷ more)) AfterTerm AfterTerm (factors_from operators inner (suc (suc n)) found) (product_of (found ++ first ∷ y ∷ more))
+        Takes-as bad (Factor first ▸ (one (Sign 42) ▸ (Factor y ▸ each MoreFactor more))) (Factor first ▸ each MoreFactor (y ∷ more)) AfterTerm AfterTerm (factors_from names operators inner (suc (suc n)) found) (product_of (found ++ first ∷ y ∷ more))
         (λ ls h. on_second (λ xs k. joined_to_right k) h) (λ rest a. a)
-        (Takes-value names (Factor first ▸ (one (Sign 42) ▸ (Factor y ▸ each MoreFactor more))) AfterTerm (factors_from operators inner (suc (suc n)) found) (product_of ((found ++ first ∷ []) ++ y ∷ more)) (product_of (found ++ first ∷ y ∷ more))
+        (Takes-value bad (Factor first ▸ (one (Sign 42) ▸ (Factor y ▸ each MoreFactor more))) AfterTerm (factors_from names operators inner (suc (suc n)) found) (product_of ((found ++ first ∷ []) ++ y ∷ more)) (product_of (found ++ first ∷ y ∷ more))
         (ap product_of (append_assoc found (first ∷ []) (y ∷ more)))
-        (Takes-bind names first (product_of ((found ++ first ∷ []) ++ y ∷ more)) (Factor first) (one (Sign 42) ▸ (Factor y ▸ each MoreFactor more)) AfterFactor AfterTerm (factor operators inner) (λ x. eat 42 >>= factors_by (suc n) found x) (Takes-factor first)
-        (Takes-then names true (product_of ((found ++ first ∷ []) ++ y ∷ more)) (one (Sign 42)) (Factor y ▸ each MoreFactor more) AfterTerm (eat 42) (factors_by (suc n) found first) (Takes-eat names 42)
+        (Takes-bind bad first (product_of ((found ++ first ∷ []) ++ y ∷ more)) (Factor first) (one (Sign 42) ▸ (Factor y ▸ each MoreFactor more)) AfterFactor AfterTerm (factor names operators inner) (λ x. eat 42 >>= factors_by (suc n) found x) (Takes-factor first)
+        (Takes-then bad true (product_of ((found ++ first ∷ []) ++ y ∷ more)) (one (Sign 42)) (Factor y ▸ each MoreFactor more) AfterTerm (eat 42) (factors_by (suc n) found first) (Takes-eat bad 42)
         (Takes-factors more y (found ++ first ∷ []) n (omega (arith, enough))))
-        (λ back rest h after. begun-shows (Sign 42) back rest AfterFactor h (λ ls. refl))))
+        (λ back rest h after. begun-shows (Sign 42) back rest AfterFactor h (λ ls. record { no_divisor = refl; no_power = refl }))))
 
     factors-length : (more : List Expr) (ls : List Lexeme) → each MoreFactor more ls → length more ≤ length ls
     factors-length more ls h = each-length MoreFactor (λ x xs k. begun-length (Sign 42) xs k) more ls h
@@ -102,15 +107,12 @@ module _ (names : List Naming) where
     pub room : (i : Input) (used rest : List Lexeme) → shown i ≡ used ++ rest → length used ≤ length i.left
     room i used rest e = let all = ap length e in omega (arith, all, length-append used rest, length-shown i)
 
-    pub Takes-term : (x : Expr) → Takes names (term operators inner) x (ATerm x) AfterTerm
+    pub Takes-term : (x : Expr) → Takes bad (term names operators inner) x (ATerm x) AfterTerm
     unfolding term
     Takes-term x i used rest here e t after =
-        let first = Opens-some t.spelled.front (factor_opens t.first t.spelled.front t.spelled.first) in
         let more = factors-length t.more t.spelled.back t.spelled.second in
         let parts = ap length t.spelled.parts in
         let left = room i used rest e in
-        let enough : length t.more ≤ length i.left - 1 = omega (arith, first, more, parts, length-append t.spelled.front t.spelled.back, left) in
-        let some : 0 < length i.left = omega (arith, first, parts, length-append t.spelled.front t.spelled.back, left) in
-        let r = Takes-factors t.more t.first [] (length i.left - 1) enough i used rest here e t.spelled after in
-        subst (λ (y : Expr). Taken names (term operators inner) i y rest) (sym t.value)
-        (record { left = r.left; reads = deeper (λ n. factors_from operators inner n [] i) (length i.left) some ∙ r.reads; shows = r.shows; declared = r.declared })
+        let enough : length t.more ≤ length i.left = omega (arith, more, parts, length-append t.spelled.front t.spelled.back, left) in
+        let r = Takes-factors t.more t.first [] (length i.left) enough i used rest here e t.spelled after in
+        subst (λ (y : Expr). Taken (term names operators inner) i y rest) (sym t.value) (record { left = r.left; reads = r.reads; shows = r.shows; follows = r.follows })

@@ -1,16 +1,30 @@
--- What is read as a line of a problem, or as a line with an expression, is well formed.
-use Rattle.std.proofs.Common.{◌≡◌, ℕ, zero, suc, ◌+◌, ◌<◌, ◌≤◌, Bool, true, false, List, [], ◌∷◌, ◌++◌, length, refl, ◌∙◌, arith, length-append, codes}
-use Rattle.ct_ore.specs.Naming.{Naming}
+-- What is read as a line with an expression, or as several, is well formed.
+use Rattle.std.proofs.Common.{◌≡◌, ℕ, zero, suc, ◌+◌, ◌≤◌, Bool, true, false, cond, List, [], ◌∷◌, ◌++◌, length, refl, ◌∙◌, arith, length-append, codes}
 use Rattle.ct_problem.specs.declared.expr.Expr.{Expr}
-use Rattle.ct_problem.specs.Input.{◌>>=◌, ◌>>◌, pure, eat_word, line_end}
-use Rattle.ct_problem.specs.Number.{number}
+use Rattle.ct_problem.specs.declared.fault.BadKind.TheVariants.{TooMany}
+use Rattle.ct_problem.specs.Input.{◌>>=◌, ◌>>◌, pure, look, eat_word, sees_word, line_end}
+use Rattle.ct_problem.specs.Number.{unless}
 use Rattle.ct_problem.specs.Expressions.{expression}
-use Rattle.ct_problem.specs.Lines.{value, part, single}
-use Rattle.ct_problem.specs.ProblemLines.{generators, generators_from, more_generators, support}
+use Rattle.ct_problem.specs.Lines.{header, no_more, value, part, value_lines, value_lines_from}
+use Rattle.ct_problem.specs.Names.{Names}
 use Rattle.ct_problem.specs.ReportLines.{keyed}
-use Rattle.ct_problem.specs.WellFormed.{IsOperator, IsPolynomial, Each}
-use Rattle.ct_problem.proofs.Steps.{Makes, Anything, Makes-pure, Makes-cond, Makes-bind, Makes-then, Makes-weaker, Makes-eat_word, Makes-expect, Makes-expect_word, Makes-line_end, Makes-dots, Makes-number, Makes-exactly}
-use Rattle.ct_problem.proofs.EvaluableExpressions.{IsFor, Each-more, Makes-expression}
+use Rattle.ct_problem.specs.WellFormed.{IsOperator, IsPolynomial, Each, AreGenerators}
+use Rattle.ct_problem.proofs.Steps.{Makes, Anything, Makes-pure, Makes-look, Makes-fault, Makes-cond, Makes-bind, Makes-then, Makes-weaker, Makes-eat_word, Makes-expect, Makes-expect_word, Makes-line_end, Makes-exactly}
+use Rattle.ct_problem.proofs.ExpressionKinds.{IsFor, Each-more}
+use Rattle.ct_problem.proofs.EvaluableExpressions.{Makes-expression}
+
+pub Makes-header : (kind : List ℕ) → Makes (header kind) Anything
+unfolding header
+Makes-header kind = Makes-then Anything _ _ (Makes-expect_word (codes "mgfun")) (Makes-then Anything _ _ (Makes-expect_word kind) (Makes-then Anything _ _ (Makes-exactly 1) Makes-line_end))
+
+pub Makes-no_more : (key : List ℕ) → Makes (no_more key) Anything
+unfolding no_more
+Makes-no_more key =
+    Makes-bind Anything Anything (look (sees_word key)) (λ more. unless more TooMany) (Makes-look Anything (sees_word key) (λ _ _. tt)) by
+  where
+    by : (more : Bool) → Unit {0} → Makes (unless more TooMany) Anything
+    by true _ = Makes-fault Anything TooMany
+    by false _ = Makes-pure Anything tt tt
 
 -- ---- lists of lines
 
@@ -26,76 +40,55 @@ pub recounted : {X : Type 0} (P : X → Type 0) (n m : ℕ) (xs : List X) → n 
 recounted P n m xs e known = record { each = known.each; counted = known.counted ∙ e }
 
 -- generators, of which so many more may come
-pub record AreGenerators (left : ℕ) (xs : List Expr) : Type 0 where
+pub record MayGrow (left : ℕ) (xs : List Expr) : Type 0 where
   pub each : Each IsOperator xs
-  pub some : 0 < length xs
   pub few : length xs + left ≤ 16
 
-pub record IsSupport (shape : ℕ × ℕ) : Type 0 where
-  pub order : shape.0 ≤ 8
-  pub degree : shape.1 ≤ 12
+pub none_yet : MayGrow 16 []
+none_yet = record { each = tt; few = omega arith }
 
-module _ (names : List Naming) (few : length names ≤ 6) where
-  Makes-value : (operators : Bool) → Makes names (value operators) (IsFor operators)
+pub one_generator_more : (n : ℕ) (xs : List Expr) (x : Expr) → MayGrow (suc n) xs → IsOperator x → MayGrow n (xs ++ x ∷ [])
+one_generator_more n xs x known h = let few = known.few in record { each = Each-more IsOperator xs x known.each h; few = omega (arith, length-append xs (x ∷ []), few) }
+
+pub generators_are : (n : ℕ) (xs : List Expr) → MayGrow n xs → AreGenerators xs
+generators_are n xs known = let few = known.few in record { few = omega (arith, few); each = known.each }
+
+module _ (names : Names) (few : length names.variables ≤ 6) where
+  Makes-value : (operators : Bool) → Makes (value names operators) (IsFor operators)
   unfolding value
   Makes-value operators =
-      Makes-bind names (IsFor operators) (IsFor operators) (expression operators) (λ x. line_end >> pure x) (Makes-expression names few operators)
-      (λ x h. Makes-then names (IsFor operators) _ _ (Makes-line_end names) (Makes-pure names (IsFor operators) x h))
+      Makes-bind (IsFor operators) (IsFor operators) (expression names operators) (λ x. line_end >> pure x) (Makes-expression names few operators)
+      (λ x h. Makes-then (IsFor operators) _ _ Makes-line_end (Makes-pure (IsFor operators) x h))
 
-  pub Makes-operator : Makes names (value true) IsOperator
-  Makes-operator = Makes-weaker names (IsFor true) IsOperator (value true) (λ x h. h.evaluable) (Makes-value true)
+  pub Makes-operator : Makes (value names true) IsOperator
+  Makes-operator = Makes-weaker (IsFor true) IsOperator (value names true) (λ x h. h.evaluable) (Makes-value true)
 
   polynomial_is : (x : Expr) → IsFor false x → IsPolynomial x
   polynomial_is x h = record { evaluable = h.evaluable; plain = h.plain refl }
 
-  pub Makes-polynomial : Makes names (value false) IsPolynomial
-  Makes-polynomial = Makes-weaker names (IsFor false) IsPolynomial (value false) polynomial_is (Makes-value false)
+  pub Makes-polynomial : Makes (value names false) IsPolynomial
+  Makes-polynomial = Makes-weaker (IsFor false) IsPolynomial (value names false) polynomial_is (Makes-value false)
 
-  module _ (P : Expr → Type 0) (operators : Bool) (line : Makes names (value operators) P) where
-    pub Makes-part : (key text : List ℕ) → Makes names (part key text operators) P
+  module _ (P : Expr → Type 0) (operators : Bool) (line : Makes (value names operators) P) where
+    pub Makes-part : (key text : List ℕ) → Makes (part names key text operators) P
     unfolding part
-    Makes-part key text = Makes-then names P _ _ (Makes-expect_word names key) (Makes-then names P _ _ (Makes-expect_word names text) (Makes-then names P _ _ (Makes-expect names 58) line))
+    Makes-part key text = Makes-then P _ _ (Makes-expect_word key) (Makes-then P _ _ (Makes-expect_word text) (Makes-then P _ _ (Makes-expect 58) line))
 
-    pub Makes-keyed : (key : List ℕ) → Makes names (keyed key operators) P
+    pub Makes-keyed : (key : List ℕ) → Makes (keyed names key operators) P
     unfolding keyed
-    Makes-keyed key = Makes-then names P _ _ (Makes-expect_word names key) line
+    Makes-keyed key = Makes-then P _ _ (Makes-expect_word key) line
 
-  -- ---- the problem
+  module _ (key : List ℕ) where
+    Makes-more : (n : ℕ) (found : List Expr) → MayGrow n found → Makes (value_lines_from names key n found) AreGenerators
+    unfolding value_lines_from
+    Makes-more zero found known = Makes-then AreGenerators (no_more key) (pure found) (Makes-no_more key) (Makes-pure AreGenerators found (generators_are 0 found known))
+    Makes-more (suc n) found known =
+        Makes-bind Anything AreGenerators (eat_word key) (λ more. cond more (value names true >>= (λ x. value_lines_from names key n (found ++ x ∷ []))) (pure found)) (Makes-eat_word key) (λ more _.
+        Makes-cond AreGenerators more (value names true >>= (λ x. value_lines_from names key n (found ++ x ∷ []))) (pure found)
+        (λ _. Makes-bind IsOperator AreGenerators (value names true) (λ x. value_lines_from names key n (found ++ x ∷ [])) Makes-operator (λ x h.
+        Makes-more n (found ++ x ∷ []) (one_generator_more n found x known h)))
+        (λ _. Makes-pure AreGenerators found (generators_are (suc n) found known)))
 
-  Makes-single : (key : List ℕ) (limit : ℕ) → Makes names (single key limit) (λ n. n ≤ limit)
-  unfolding single
-  Makes-single key limit =
-      Makes-then names (λ n. n ≤ limit) _ _ (Makes-expect_word names key)
-      (Makes-bind names (λ n. n ≤ limit) (λ n. n ≤ limit) (number limit) _ (Makes-number names limit) (λ n within.
-      Makes-then names (λ m. m ≤ limit) _ _ (Makes-dots names) (Makes-then names (λ m. m ≤ limit) _ _ (Makes-exactly names n)
-      (Makes-then names (λ m. m ≤ limit) _ _ (Makes-line_end names) (Makes-pure names (λ m. m ≤ limit) n within)))))
-
-  pub Makes-support : Makes names support IsSupport
-  unfolding support
-  Makes-support =
-      Makes-bind names (λ n. n ≤ 8) IsSupport (single (codes "order") 8) _ (Makes-single (codes "order") 8) (λ order low.
-      Makes-bind names (λ n. n ≤ 12) IsSupport (single (codes "degree") 12) _ (Makes-single (codes "degree") 12) (λ degree small.
-      Makes-then names IsSupport _ _ (Makes-expect_word names (codes "end")) (Makes-then names IsSupport _ _ (Makes-line_end names)
-      (Makes-pure names IsSupport (order, degree) (record { order = low; degree = small })))))
-
-  Makes-more : (n : ℕ) (found : List Expr) → AreGenerators n found → Makes names (generators_from n found) (AreGenerators 0)
-  unfolding generators_from
-  Makes-more zero found known = Makes-pure names (AreGenerators 0) found known
-  Makes-more (suc n) found known =
-      let room = known.few in
-      Makes-bind names Anything (AreGenerators 0) (eat_word (codes "gen")) _ (Makes-eat_word names (codes "gen")) (λ more _.
-      Makes-cond names (AreGenerators 0) more (value true >>= (λ x. generators_from n (found ++ x ∷ []))) (pure found)
-      (λ _. Makes-bind names IsOperator (AreGenerators 0) (value true) (λ x. generators_from n (found ++ x ∷ [])) Makes-operator (λ x h.
-      Makes-more n (found ++ x ∷ []) (record {
-        each = Each-more IsOperator found x known.each h;
-        some = omega (arith, length-append found (x ∷ []));
-        few = omega (arith, length-append found (x ∷ []), room);
-      })))
-      (λ _. Makes-pure names (AreGenerators 0) found (record { each = known.each; some = known.some; few = omega (arith, room) })))
-
-  pub Makes-generators : Makes names generators (AreGenerators 0)
-  unfolding generators more_generators
-  Makes-generators =
-      Makes-then names (AreGenerators 0) _ _ (Makes-expect_word names (codes "gen"))
-      (Makes-bind names IsOperator (AreGenerators 0) (value true) (λ x. generators_from 15 (x ∷ [])) Makes-operator (λ x h.
-      Makes-more 15 (x ∷ []) (record { each = (h, tt); some = omega arith; few = omega arith })))
+    pub Makes-value_lines : Makes (value_lines names key) AreGenerators
+    unfolding value_lines
+    Makes-value_lines = Makes-more 16 [] none_yet

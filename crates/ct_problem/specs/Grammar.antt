@@ -2,22 +2,22 @@
 --     EXPR   = ["-"] TERM { ("+" | "-") TERM }
 --     TERM   = FACTOR { "*" FACTOR }
 --     FACTOR = ATOM [ "^" NUMBER ]
---     ATOM   = NUMBER | NAME | "S" "[" NAME "]" | "D" "[" NAME "]" | "(" EXPR ")"
+--     ATOM   = NUMBER [ "/" NUMBER ] | NAME | "S" "[" NAME "]" | "D" "[" NAME "]" | "(" EXPR ")"
 -- An EXPR of one term with no `-` before it is that term, and else the sum of its terms with their signs. A TERM of one factor
 -- is that factor, and else the product of its factors. Parentheses leave no mark of their own. Numbers are at most the greatest
--- coefficient, exponents at most the greatest degree, and at most 64 parentheses are open at once. A name is the first that was
--- declared with its letters; `S` stands before a shift, `D` before a derivation. A polynomial has neither.
+-- coefficient, the one behind `/` isn't 0, exponents are at most the greatest degree, and at most 64 parentheses are open at
+-- once. A name is the first that was declared with its letters; `S` stands before a shift, `D` before a derivation. A polynomial
+-- has neither.
 --     IsExpression names operators x ls     these lexemes are an EXPR that stands for x, with operators or without
-use Rattle.std.specs.Prelude.{◌≡◌, ◌≢◌, ℕ, zero, suc, Bool, false, if◌then◌else◌, List, [], ◌∷◌, map, position, Some, None, IsTrue, pos, codes}
+use Rattle.std.specs.Prelude.{◌≡◌, ◌≢◌, ℕ, zero, suc, Bool, false, if◌then◌else◌, List, [], ◌∷◌, map, position, slice_get, Some, IsTrue, pos, codes}
 use Rattle.ct_algebra.specs.Actions.{Action, Shift, Derive}
 use Rattle.ct_mono.specs.Limits.{largest_degree, largest_norm}
-use Rattle.ct_ore.specs.Naming.{Naming}
 use Rattle.ct_problem.specs.declared.expr.Expr.{Expr}
 use Rattle.ct_problem.specs.declared.expr.Expr.TheVariants as e
 use Rattle.ct_problem.specs.declared.expr.Summand.{Summand, roll-Summand}
-use Rattle.ct_problem.specs.DeclaredNames.{is_wanted}
+use Rattle.ct_problem.specs.Names.{Names, is_named, acts_as}
 use Rattle.ct_problem.specs.Lexemes.{Lexeme, Word, Sign, Texts, one, optional, number, ◌▸◌, each}
-use Rattle.ct_problem.specs.Signs.{plus, minus, star, caret, open_parenthesis, close_parenthesis, open_bracket, close_bracket}
+use Rattle.ct_problem.specs.Signs.{plus, minus, star, caret, open_parenthesis, close_parenthesis, open_bracket, close_bracket, slash}
 
 -- ---- values
 
@@ -46,16 +46,17 @@ sum_of negative first more = e.Sum (summand negative first ∷ map (λ t. summan
 abbrev pub symbol : List ℕ → List ℕ → Texts
 symbol letter name = one (Word letter) ▸ one (Sign open_bracket) ▸ one (Word name) ▸ one (Sign close_bracket)
 
-module _ (names : List Naming) where
+module _ (names : Names) where
   -- the first declared name of these letters has this number; `S` and `D` name nothing
   pub record IsVariable (letters : List ℕ) (at : ℕ) : Type 0 where
     pub no_shift : letters ≢ codes "S"
     pub no_derivation : letters ≢ codes "D"
-    pub first : position (is_wanted None letters) names ≡ Some at
+    pub first : position (is_named letters) names.variables ≡ Some at
 
-  -- the first declared name of these letters and this action has this number
-  abbrev pub IsActing : Action → List ℕ → ℕ → Type 0
-  IsActing action letters at = position (is_wanted (Some action) letters) names ≡ Some at
+  -- the same, of a name with this action
+  pub record IsActing (action : Action) (letters : List ℕ) (at : ℕ) : Type 0 where
+    pub first : position (is_named letters) names.variables ≡ Some at
+    pub acts : IsTrue (acts_as action (slice_get names.variables at))
 
   -- ---- the rules
 
@@ -64,6 +65,7 @@ module _ (names : List Naming) where
     module _ (InParentheses : Expr → Texts) where
       pub data IsAtom (x : Expr) (ls : List Lexeme) : Type 0 where
         whole : (n : ℕ) → x ≡ e.Whole (pos n) → number largest_norm n ls → IsAtom x ls
+        ratio : (n d : ℕ) → x ≡ e.Ratio (pos n) (pos d) → d ≢ 0 → (number largest_norm n ▸ one (Sign slash) ▸ number largest_norm d) ls → IsAtom x ls
         variable : (name : List ℕ) (at : ℕ) → IsVariable name at → x ≡ e.Name at → one (Word name) ls → IsAtom x ls
         shift : (name : List ℕ) (at : ℕ) → IsTrue operators → IsActing Shift name at → x ≡ e.Symbol at → symbol (codes "S") name ls → IsAtom x ls
         derivation : (name : List ℕ) (at : ℕ) → IsTrue operators → IsActing Derive name at → x ≡ e.Symbol at → symbol (codes "D") name ls → IsAtom x ls

@@ -1,4 +1,4 @@
--- The bytes of a text in the first form: at most 2^26, spaces and printable ASCII but for `#` and `/`, in lines that each
+-- The bytes of a report in the plain form: at most 2^26, spaces and printable ASCII but for `#` and `/`, in lines that each
 -- end with a line feed, and no line of spaces alone.
 --     line_after line b    where a line is after one more byte, if that byte may stand there
 --     is_plain bytes       whether a text is like that

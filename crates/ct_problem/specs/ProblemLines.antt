@@ -1,35 +1,62 @@
--- The lines of a problem in the first form, after its names:
---     gen EXPR           1 to 16 times
---     order A..A         A at most 8
---     degree C..C        C at most 12
+-- The lines of a problem behind its names and `let` lines, each kind in its turn:
+--     gen EXPR           at most 16 times
+--     use NAME           in place of `gen` lines, at most once
+--     den NAME: EXPR     at most once for each summed name
+--     target EXPR        at most 16 times
+--     order A..B         at most once, A and B at most 8
+--     degree C..D        at most once, C and D at most 12
 --     end
---     generators         the rule of the `gen` lines
---     support            the rule of the lines `order`, `degree` and `end`
-use Rattle.std.specs.Prelude.{ℕ, zero, suc, true, if◌then◌else◌, List, [], ◌∷◌, ◌++◌, codes}
+--     generators names   the rule of the `gen` lines or the `use` line
+--     range_line key limit    the rule of the line of a range, if it is there
+use Rattle.std.specs.Prelude.{ℕ, nat_lt, if◌then◌else◌, List, [], ◌∷◌, Option, Some, None, codes}
 use Rattle.ct_problem.specs.declared.expr.Expr.{Expr}
-use Rattle.ct_problem.specs.Input.{Parser, ◌>>=◌, ◌>>◌, pure, eat_word, expect_word, line_end}
-use Rattle.ct_problem.specs.Lines.{value, single}
+use Rattle.ct_problem.specs.declared.fault.BadKind.TheVariants.{OutOfRange, EmptyRange}
+use Rattle.ct_problem.specs.declared.problem.Gens.{Gens}
+use Rattle.ct_problem.specs.declared.problem.Gens.TheVariants.{Listed, Named}
+use Rattle.ct_problem.specs.declared.problem.Range.{Range}
+use Rattle.ct_problem.specs.Input.{Parser, ◌>>=◌, ◌>>◌, pure, skip, eat_word, line_end, dots}
+use Rattle.ct_problem.specs.LetLines.{list_name}
+use Rattle.ct_problem.specs.Lines.{no_more, value_lines}
+use Rattle.ct_problem.specs.Names.{Names}
+use Rattle.ct_problem.specs.Number.{coming_number, number, unless}
 
--- at most so many more lines
-unfoldable pub generators_from : ℕ → List Expr → Parser (List Expr)
-generators_from zero found = pure found
-generators_from (suc n) found = do
-  more ← eat_word (codes "gen")
-  if more then (do x ← value true; generators_from n (found ++ x ∷ [])) else pure found
+module _ (names : Names) where
+  -- a `use` line behind its first word
+  unfoldable pub used : Parser Gens
+  used = do
+    at ← list_name names
+    line_end
+    no_more (codes "use")
+    pure (Named at)
 
-unfoldable pub more_generators : Expr → Parser (List Expr)
-more_generators first = generators_from 15 (first ∷ [])
+  abbrev pub listed_or_used : List Expr → Parser Gens
+  listed_or_used [] = do
+    is_used ← eat_word (codes "use")
+    if is_used then used else pure (Listed [])
+  listed_or_used (x ∷ xs) = pure (Listed (x ∷ xs))
 
-unfoldable pub generators : Parser (List Expr)
-generators = do
-  expect_word (codes "gen")
-  first ← value true
-  more_generators first
+  unfoldable pub generators : Parser Gens
+  generators = value_lines names (codes "gen") >>= listed_or_used
 
-unfoldable pub support : Parser (ℕ × ℕ)
-support = do
-  order ← single (codes "order") 8
-  degree ← single (codes "degree") 12
-  expect_word (codes "end")
-  line_end
-  pure (order, degree)
+-- ---- ranges
+
+-- the second number of a range
+unfoldable pub high_number : ℕ → ℕ → Parser ℕ
+high_number limit low = do
+  n ← coming_number
+  unless (nat_lt limit n) OutOfRange
+  unless (nat_lt n low) EmptyRange
+  skip
+  pure n
+
+unfoldable pub range : ℕ → Parser Range
+range limit = do
+  low ← number limit OutOfRange
+  dots
+  high ← high_number limit low
+  pure (record { low = low; high = high })
+
+unfoldable pub range_line : List ℕ → ℕ → Parser (Option Range)
+range_line key limit = do
+  is_there ← eat_word key
+  if is_there then (do r ← range limit; line_end; no_more key; pure (Some r)) else pure None

@@ -1,4 +1,4 @@
--- The lines of a report in the first form, under names and a number of generators:
+-- The rules that read a report that found a telescoper, under names and a number of generators:
 --     mgfun report 1
 --     found I order R degree T
 --     telescoper OP
@@ -9,20 +9,24 @@
 --     cofactor NUMBER: OP      for each generator, from 1
 --     end
 -- The three numbers of the second line are at most 65535. Nothing comes after the last line.
---     report names count       the rule of these lines
+--     report names count       the rule of these lines, where the names are the declared ones
 use Rattle.std.specs.Prelude.{ℕ, zero, suc, ◌+◌, Bool, true, false, List, [], ◌∷◌, ◌++◌, codes}
+use Rattle.ct_ore.specs.Naming.{Naming}
 use Rattle.ct_problem.specs.declared.expr.Expr.{Expr}
-use Rattle.ct_problem.specs.declared.first_form.Quotient.{Quotient}
-use Rattle.ct_problem.specs.declared.first_form.Report.{Report}
-use Rattle.ct_problem.specs.Input.{Parser, ◌>>=◌, ◌>>◌, pure, refuse, expect, expect_word, line_end}
-use Rattle.ct_problem.specs.Number.{number, exactly}
+use Rattle.ct_problem.specs.declared.fault.BadKind.TheVariants.{OutOfRange, TrailingText}
+use Rattle.ct_problem.specs.declared.report.Quotient.{Quotient}
+use Rattle.ct_problem.specs.declared.report.Report.{Report}
+use Rattle.ct_problem.specs.Declarations.{declared}
+use Rattle.ct_problem.specs.Input.{Parser, ◌>>=◌, ◌>>◌, pure, fault, expect, expect_word, line_end}
 use Rattle.ct_problem.specs.Lines.{header, value, part}
+use Rattle.ct_problem.specs.Names.{Names, summed_texts}
+use Rattle.ct_problem.specs.Number.{number, exactly}
 
 abbrev pub largest_index : ℕ
 largest_index = 65535
 
 abbrev pub numbered : List ℕ → Parser ℕ
-numbered key = expect_word key >> number largest_index
+numbered key = expect_word key >> number largest_index OutOfRange
 
 unfoldable pub found_line : Parser (ℕ × ℕ × ℕ)
 found_line = do
@@ -32,47 +36,48 @@ found_line = do
   line_end
   pure (index, order, degree)
 
-unfoldable pub quotient : List ℕ → Parser Quotient
-quotient text = do
-  numerator ← part (codes "numerator") text true
-  denominator ← part (codes "denominator") text false
-  pure (record { numerator = numerator; denominator = denominator })
+module _ (names : Names) where
+  unfoldable pub quotient : List ℕ → Parser Quotient
+  quotient text = do
+    numerator ← part names (codes "numerator") text true
+    denominator ← part names (codes "denominator") text false
+    pure (record { numerator = numerator; denominator = denominator })
 
--- of the summed names with these texts
-unfoldable pub quotients_from : List (List ℕ) → List Quotient → Parser (List Quotient)
-quotients_from [] found = pure found
-quotients_from (text ∷ texts) found = do
-  q ← quotient text
-  quotients_from texts (found ++ q ∷ [])
+  -- of the summed names with these texts
+  unfoldable pub quotients_from : List (List ℕ) → List Quotient → Parser (List Quotient)
+  quotients_from [] found = pure found
+  quotients_from (text ∷ texts) found = do
+    q ← quotient text
+    quotients_from texts (found ++ q ∷ [])
 
-unfoldable pub factors_of : List (List ℕ) → List Expr → Parser (List Expr)
-factors_of [] found = pure found
-factors_of (text ∷ texts) found = do
-  x ← part (codes "part") text false
-  factors_of texts (found ++ x ∷ [])
+  unfoldable pub factors_of : List (List ℕ) → List Expr → Parser (List Expr)
+  factors_of [] found = pure found
+  factors_of (text ∷ texts) found = do
+    x ← part names (codes "part") text false
+    factors_of texts (found ++ x ∷ [])
 
-unfoldable pub cofactor : ℕ → Parser Expr
-cofactor number = do
-  expect_word (codes "cofactor")
-  exactly number
-  expect 58
-  value true
+  unfoldable pub cofactor : ℕ → Parser Expr
+  cofactor number = do
+    expect_word (codes "cofactor")
+    exactly number
+    expect 58
+    value names true
 
--- so many more cofactors, the first of this number
-unfoldable pub cofactors_from : ℕ → ℕ → List Expr → Parser (List Expr)
-cofactors_from number zero found = pure found
-cofactors_from number (suc n) found = do
-  x ← cofactor number
-  cofactors_from (number + 1) n (found ++ x ∷ [])
+  -- so many more cofactors, the first of this number
+  unfoldable pub cofactors_from : ℕ → ℕ → List Expr → Parser (List Expr)
+  cofactors_from number zero found = pure found
+  cofactors_from number (suc n) found = do
+    x ← cofactor number
+    cofactors_from (number + 1) n (found ++ x ∷ [])
 
-unfoldable pub keyed : List ℕ → Bool → Parser Expr
-keyed key operators = do
-  expect_word key
-  value operators
+  unfoldable pub keyed : List ℕ → Bool → Parser Expr
+  keyed key operators = do
+    expect_word key
+    value names operators
 
 abbrev pub at_end_by : {X : Type 0} → List X → Parser (Unit {0})
 at_end_by [] = pure tt
-at_end_by (x ∷ xs) = refuse
+at_end_by (x ∷ xs) = fault TrailingText
 
 -- no token is left
 unfoldable pub at_end : Parser (Unit {0})
@@ -84,14 +89,14 @@ finish = do
   line_end
   at_end
 
-unfoldable pub report : List (List ℕ) → ℕ → Parser Report
-report summed count = do
+unfoldable pub report : List Naming → ℕ → Parser Report
+report variables count = do
   header (codes "report")
   place ← found_line
-  telescoper ← keyed (codes "telescoper") true
-  quotients ← quotients_from summed []
-  scale ← keyed (codes "scale") false
-  factors ← factors_of summed []
-  cofactors ← cofactors_from 1 count []
+  telescoper ← keyed (declared variables) (codes "telescoper") true
+  quotients ← quotients_from (declared variables) (summed_texts variables) []
+  scale ← keyed (declared variables) (codes "scale") false
+  factors ← factors_of (declared variables) (summed_texts variables) []
+  cofactors ← cofactors_from (declared variables) 1 count []
   finish
   pure (record { index = place.0; order = place.1; degree = place.2; telescoper = telescoper; quotients = quotients; scale = scale; factors = factors; cofactors = cofactors })

@@ -36,3 +36,15 @@ close_bracket = 93
 -- :
 abbrev pub colon : ℕ
 colon = 58
+
+-- /
+abbrev pub slash : ℕ
+slash = 47
+
+-- ;
+abbrev pub semicolon : ℕ
+semicolon = 59
+
+-- =
+abbrev pub equals : ℕ
+equals = 61

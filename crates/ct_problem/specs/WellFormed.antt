@@ -1,16 +1,22 @@
--- What a text in the first form keeps to, and so what whoever uses it may count on.
+-- What a problem and a report that were read keep to, and so what whoever uses them may count on.
 --     IsOperator x, IsPolynomial x     an expression whose value can be asked for; one without symbols
---     IsWellFormed form                its names are an algebra with something to sum over, its expressions can be evaluated, and a
---                                      quotient, a factor or a cofactor stands there for each summed name or generator
-use Rattle.std.specs.Prelude.{◌≡◌, ◌≢◌, ◌<◌, ◌≤◌, ℕ, List, [], ◌∷◌, length, IsTrue}
-use Rattle.ct_algebra.specs.Actions.{Still}
-use Rattle.ct_algebra.specs.FreeOf.{EachName}
-use Rattle.ct_ore.specs.Naming.{IsAlgebra, actions_of, summed_of}
+--     IsProblem p                      its expressions can be evaluated, the lists that a `let` line names are of earlier lines, an
+--                                      entry of `dens` stands there for each name, its ranges are within the limits, and there are
+--                                      no more lines of a kind than may be
+--     IsReportOn names count r         its expressions can be evaluated, and a quotient, a factor or a cofactor stands there for
+--                                      each summed name or generator
+use Rattle.std.specs.Prelude.{◌≡◌, ◌<◌, ◌≤◌, ℕ, suc, List, [], ◌∷◌, length, Option, Some, None, IsTrue}
+use Rattle.ct_ore.specs.Naming.{Naming, IsAlgebra}
 use Rattle.ct_problem.specs.declared.expr.Expr.{Expr}
-use Rattle.ct_problem.specs.declared.first_form.FirstForm.{FirstForm}
-use Rattle.ct_problem.specs.declared.first_form.Problem.{Problem}
-use Rattle.ct_problem.specs.declared.first_form.Quotient.{Quotient}
-use Rattle.ct_problem.specs.declared.first_form.Report.{Report}
+use Rattle.ct_problem.specs.declared.problem.Gens.{Gens}
+use Rattle.ct_problem.specs.declared.problem.Gens.TheVariants as gens
+use Rattle.ct_problem.specs.declared.problem.LetForm.{LetForm}
+use Rattle.ct_problem.specs.declared.problem.LetForm.TheVariants as form
+use Rattle.ct_problem.specs.declared.problem.Problem.{Problem}
+use Rattle.ct_problem.specs.declared.problem.Range.{Range}
+use Rattle.ct_problem.specs.declared.report.Quotient.{Quotient}
+use Rattle.ct_problem.specs.declared.report.Report.{Report}
+use Rattle.ct_problem.specs.DenLines.{Dens, is_summed_name}
 use Rattle.ct_problem.specs.Value.{is_evaluable, has_no_symbol}
 
 abbrev pub IsOperator : Expr → Type 0
@@ -24,19 +30,55 @@ abbrev pub Each : {X : Type 0} → (X → Type 0) → List X → Type 0
 Each P [] = Unit {0}
 Each P (x ∷ xs) = P x × Each P xs
 
+-- ---- problems
+
+-- at most 16 generators
+pub record AreGenerators (xs : List Expr) : Type 0 where
+  pub few : length xs ≤ 16
+  pub each : Each IsOperator xs
+
+-- behind so many `let` lines
+abbrev pub IsForm : ℕ → LetForm → Type 0
+IsForm lines (form.Gens xs) = AreGenerators xs
+IsForm lines (form.Plus a b) = (a < lines) × (b < lines)
+IsForm lines (form.Product a b) = (a < lines) × (b < lines)
+IsForm lines (form.Apply a x) = (a < lines) × IsOperator x
+
+abbrev pub AreForms : ℕ → List LetForm → Type 0
+AreForms lines [] = Unit {0}
+AreForms lines (f ∷ fs) = IsForm lines f × AreForms (suc lines) fs
+
+abbrev pub IsGens : ℕ → Gens → Type 0
+IsGens lines (gens.Listed xs) = AreGenerators xs
+IsGens lines (gens.Named at) = at < lines
+
+-- an entry for each of these names; one is there only for a summed name
+abbrev pub AreDens : List Naming → Dens → Type 0
+AreDens [] [] = Unit {0}
+AreDens (n ∷ ns) (None ∷ ds) = AreDens ns ds
+AreDens (n ∷ ns) (Some x ∷ ds) = (IsTrue (is_summed_name (Some n)) × IsPolynomial x) × AreDens ns ds
+AreDens _ _ = ⊥
+
+abbrev pub IsRange : ℕ → Option Range → Type 0
+IsRange limit None = Unit {0}
+IsRange limit (Some r) = (r.low ≤ r.high) × (r.high ≤ limit)
+
+pub record IsProblem (p : Problem) : Type 0 where
+  pub names : IsAlgebra p.algebra
+  pub few_lets : length p.lets ≤ 8
+  pub a_name_each : length p.let_names.items ≡ length p.lets
+  pub lets : AreForms 0 p.lets
+  pub gens : IsGens (length p.lets) p.gens
+  pub dens : AreDens p.algebra p.dens
+  pub targets : AreGenerators p.targets
+  pub orders : IsRange 8 p.orders
+  pub degrees : IsRange 12 p.degrees
+
+-- ---- reports
+
 pub record IsQuotient (q : Quotient) : Type 0 where
   pub numerator : IsOperator q.numerator
   pub denominator : IsPolynomial q.denominator
-
-pub record IsProblem (problem : Problem) : Type 0 where
-  pub names : IsAlgebra problem.algebra
-  pub summed : 0 < length (summed_of problem.algebra)
-  pub acts : EachName (λ j. actions_of problem.algebra j ≢ Still) (summed_of problem.algebra)
-  pub generators : Each IsOperator problem.generators
-  pub some : 0 < length problem.generators
-  pub few : length problem.generators ≤ 16
-  pub order : problem.order ≤ 8
-  pub degree : problem.degree ≤ 12
 
 -- a report on so many summed names and generators
 pub record IsReportOn (summed generators : ℕ) (report : Report) : Type 0 where
@@ -48,7 +90,3 @@ pub record IsReportOn (summed generators : ℕ) (report : Report) : Type 0 where
   pub each_quotient : length report.quotients ≡ summed
   pub each_factor : length report.factors ≡ summed
   pub each_cofactor : length report.cofactors ≡ generators
-
-pub record IsWellFormed (form : FirstForm) : Type 0 where
-  pub problem : IsProblem form.problem
-  pub report : IsReportOn (length (summed_of form.problem.algebra)) (length form.problem.generators) form.report

@@ -1,95 +1,159 @@
-// Reading a text in the first form.
-ghost use Rattle.std.specs.Prelude.{◌≡◌, ◌≤◌, length, IfOk, IfErr};
-ghost use Rattle.std.specs.Str.{IsAscii};
-ghost use Rattle.ct_ore.specs.Naming.{IsAlgebra, namings_of};
-ghost use Rattle.ct_problem.specs.FirstForm as spec;
-ghost use Rattle.ct_problem.specs.FirstForm.{Gives};
-ghost use Rattle.ct_problem.specs.GrammarLines.{StandsFor, StandsForNone};
-ghost use Rattle.ct_problem.specs.declared.fault.ReadFault.TheVariants.{NotYet};
-ghost use Rattle.ct_problem.specs.Input.{ReadsBy, input_at};
-ghost use Rattle.ct_problem.specs.WellFormed.{IsWellFormed};
-ghost use Rattle.ct_token.specs.Lexing.{AreTokens};
+// Reading problems, and reports that found a telescoper.
+ghost use Rattle.std.specs.Prelude.{◌≡◌, ◌≢◌, ◌≤◌, [], length, IfOk, IfErr, IfSome, None};
+ghost use Rattle.ct_ore.specs.Naming.{IsAlgebra, summed_of};
+ghost use Rattle.ct_problem.specs.Cursor.{IsCursor};
+ghost use Rattle.ct_problem.specs.Declarations.{declared};
+ghost use Rattle.ct_problem.specs.Draft.{reading_of_draft};
+ghost use Rattle.ct_problem.specs.GrammarProblem.{StandsFor, StandsForNone};
+ghost use Rattle.ct_problem.specs.GrammarReport.{ReportStandsFor, ReportStandsForNone};
+ghost use Rattle.ct_problem.specs.Input.{ReadsBy};
+ghost use Rattle.ct_problem.specs.ReadProblem as spec;
+ghost use Rattle.ct_problem.specs.ReadProblem.{Gives};
+ghost use Rattle.ct_problem.specs.ReadReport.{report_of};
+ghost use Rattle.ct_problem.specs.WellFormed.{IsProblem, IsReportOn};
+ghost use Rattle.ct_problem.specs.declared.fault.ReadFault.TheVariants as fault;
 
+mod atoms;
 mod body;
 mod declarations;
+mod den_lines;
+mod ending;
 mod expressions;
+mod let_lines;
 mod lines;
+mod name_table;
+mod names;
 mod numbers;
 mod plain;
 mod problem_lines;
 mod report_lines;
 mod tokens;
 
-use crate::fault::ReadFault;
-use crate::first_form::{FirstForm, Problem};
-use crate::reading::body::{Body, after_names};
-use crate::reading::declarations::{declarations, summed_texts};
-use crate::reading::lines::header;
+use crate::fault::{BadInput, BadKind, ReadFault};
+use crate::problem::Problem;
+use crate::reading::body::{Draft, body, head};
+use crate::reading::ending::last_line;
+use crate::reading::names::Names;
 use crate::reading::plain::is_plain;
+use crate::reading::report_lines::report;
 use crate::reading::tokens::Tokens;
+use crate::report::Report;
+use ct_io::Command;
+use ct_mono::NoMemory;
 use ct_ore::{Algebra, NameInfo};
-use ct_token::{Token, scan_text};
+use ct_token::scan_text;
 use std::alloc::Global;
 
-/// What a text in the first form stands for.
-#[tactic(auto, unfolding(crate::specs::FirstForm::first_form_of))]
-pub fn read_first_form(alloc: Global, text: &[u8]) -> Result<FirstForm, ReadFault>
-    ensures reads { Gives (spec.first_form_of text.now) result }
-    ensures formed { IfOk result IsWellFormed }
-    ensures accepts { IfOk result (StandsFor text.now) }
-    ensures refuses { IfErr result (λ e. e ≡ NotYet → StandsForNone text.now) }
+/// The most bytes of a text.
+const MOST_BYTES: usize = 1 << 26;
+
+/// The problem that a text begins with, which has what the command needs, or the text's first fault. Behind
+/// the problem may come a report for `check`, and else nothing.
+#[tactic(auto, unfolding(crate::specs::ReadProblem::problem_of))]
+pub fn read_problem(alloc: Global, bytes: &[u8], command: Command) -> Result<Problem, ReadFault>
+    ensures reads { Gives (spec.problem_of command bytes.now) result }
+    ensures formed { IfOk result IsProblem }
+    ensures accepts { IfOk result (λ p. StandsFor command bytes.now (spec.reading_of p) p.end) }
+    ensures refuses { IfErr result (λ e. e ≢ fault.NoMemory → StandsForNone command bytes.now) }
+    ensures within { IfOk result (λ p. p.end ≤ length bytes.now) }
 {
-    if !is_plain(text) {
-        return Err(ReadFault::NotYet);
+    if bytes.len() > MOST_BYTES {
+        return Err(ReadFault::Bad(BadInput {
+            kind: BadKind::TooLong,
+            offset: MOST_BYTES,
+        }));
     }
-    let scan = scan_text(alloc, text, 0)?;
-    match scan.bad {
-        Some(_) => Err(ReadFault::NotYet),
-        None => problem_and_report(alloc, text, scan.tokens.as_slice()),
+    let scan = scan_text(alloc, bytes, 0)?;
+    let mut tokens = Tokens::new(bytes, scan.tokens.as_slice(), scan.bad);
+    problem(alloc, &mut tokens, command)
+}
+
+#[tactic(auto, unfolding(crate::specs::ReadProblem::problem))]
+fn problem(alloc: Global, tokens: &mut Tokens<'_>, command: Command) -> Result<Problem, ReadFault>
+    requires { IsCursor tokens.old.text tokens.old.left }
+    ensures reads { ReadsBy (λ p. (spec.reading_of p, p.end)) (spec.problem command tokens.old) result tokens.new }
+    ensures a_name_each { IfOk result (λ p. length p.let_names.items ≡ length p.lets) }
+{
+    let (names, lets) = head(alloc, tokens)?;
+    let draft = body(alloc, names, lets, tokens)?;
+    let end = last_line(tokens, command, &draft)?;
+    Ok(problem_of(draft, end))
+}
+
+#[tactic(auto, unfolding(crate::specs::Draft::reading_of_draft))]
+fn problem_of(draft: Draft, end: usize) -> Problem
+    requires { IsAlgebra draft.names.variables }
+    ensures reads { spec.reading_of result ≡ reading_of_draft draft }
+    ensures end { result.end ≡ end }
+    ensures names { length result.let_names.items ≡ length draft.names.lets }
+    ensures lets { result.lets ≡ draft.lets }
+{
+    let Draft {
+        names,
+        lets,
+        gens,
+        dens,
+        targets,
+        orders,
+        degrees,
+    } = draft;
+    let (variables, let_names) = names.into_parts();
+    Problem {
+        algebra: Algebra::new(variables),
+        lets,
+        let_names,
+        gens,
+        dens,
+        targets,
+        orders,
+        degrees,
+        end,
     }
 }
 
-#[tactic(auto, unfolding(crate::specs::FirstForm::problem_and_report))]
-fn problem_and_report(alloc: Global, text: &[u8], left: &[Token]) -> Result<FirstForm, ReadFault>
-    requires ascii { IsAscii text.now }
-    requires lexed { AreTokens text.now 0 left.now }
-    ensures { Gives (spec.value_of (spec.problem_and_report (input_at text.now left.now))) result }
+/// The report that found a telescoper which the text is from this place on, on a problem with these names
+/// and so many generators, or none.
+#[tactic(auto, unfolding(crate::specs::ReadReport::report_of))]
+pub fn read_found_report(
+    alloc: Global,
+    algebra: &Algebra,
+    generators: usize,
+    bytes: &[u8],
+    from: usize,
+) -> Result<Option<Report>, NoMemory>
+    requires { from ≤ length bytes.now }
+    ensures reads { IfOk result (λ r. r ≡ report_of algebra.now generators bytes.now from) }
+    ensures formed { IfOk result (λ o. IfSome o (IsReportOn (length (summed_of algebra.now)) generators)) }
+    ensures accepts { IfOk result (λ o. IfSome o (ReportStandsFor algebra.now generators bytes.now from)) }
+    ensures refuses { IfOk result (λ o. o ≡ None → ReportStandsForNone algebra.now generators bytes.now from) }
 {
-    let mut tokens = Tokens::new(text, left);
-    let names = names(alloc, &mut tokens)?;
-    let summed = summed_texts(alloc, names.as_slice())?;
-    let mut tokens = tokens.with_names(names.as_slice());
-    let body = after_names(alloc, &mut tokens, summed.as_slice())?;
-    Ok(with_names(body, names))
-}
-
-/// The first line and the names.
-#[tactic(auto, unfolding(crate::specs::FirstForm::names))]
-fn names(alloc: Global, tokens: &mut Tokens<'_>) -> Result<Vec<NameInfo>, ReadFault>
-    ensures reads { ReadsBy (λ v. namings_of v.items) (spec.names tokens.old) result tokens.new }
-    ensures few { IfOk result (λ v. length v.items ≤ 6) }
-{
-    header(tokens, b"problem")?;
-    declarations(alloc, tokens)
-}
-
-fn with_names(body: Body, names: Vec<NameInfo>) -> FirstForm
-    requires { IsAlgebra (namings_of names.items) }
-    ensures { result ≡ spec.form_of (namings_of names.items) body }
-{
-    let Body {
-        generators,
-        order,
-        degree,
-        report,
-    } = body;
-    FirstForm {
-        problem: Problem {
-            algebra: Algebra::new(names),
-            generators,
-            order,
-            degree,
-        },
-        report,
+    let (_, rest) = bytes.split_at(from);
+    if !is_plain(rest) {
+        return Ok(None);
     }
+    let names = names_of(alloc, algebra)?;
+    let scan = scan_text(alloc, bytes, from)?;
+    let mut tokens = Tokens::new(bytes, scan.tokens.as_slice(), scan.bad);
+    match report(alloc, &names, &mut tokens, generators) {
+        Ok(found) => Ok(Some(found)),
+        Err(ReadFault::Bad(_)) => Ok(None),
+        Err(ReadFault::NoMemory) => Err(NoMemory),
+    }
+}
+
+/// The names of an algebra, and no `let` line.
+fn names_of(alloc: Global, algebra: &Algebra) -> Result<Names, NoMemory>
+    ensures names { IfOk result (λ n. n ≡ declared algebra.now) }
+    ensures few { IfOk result (λ n. length n.variables ≤ 6) }
+{
+    let infos = algebra.infos();
+    let mut variables = Vec::new(alloc);
+    for info in infos {
+        variables.push(NameInfo {
+            text: info.text.clone()?,
+            action: info.action,
+            role: info.role,
+        })?;
+    }
+    Names::of(alloc, variables)
 }

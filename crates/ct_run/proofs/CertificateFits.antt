@@ -1,5 +1,5 @@
 -- What a report on an algebra's names stands for fits them: a summand for each summed name, a cofactor for each generator.
--- Main lemmas `certificate_fits` and `values_length`, cited by `answer_form` and by what a yes means. By the steps that fit.
+-- Main lemmas `certificate_fits` and `setup_length`, cited by `answer_form` and by what a yes means. By the steps that fit.
 use Rattle.std.proofs.Common.{◌≡◌, refl, ℕ, ◌+◌, List, [], ◌∷◌, ◌++◌, map, length, Ok, sym, ◌∙◌, ap, arith, length-append}
 use Rattle.ct_algebra.specs.Names.{Name}
 use Rattle.ct_algebra.specs.Actions.{Action}
@@ -9,14 +9,16 @@ use Rattle.ct_algebra.specs.Certificate.{Certificate}
 use Rattle.ct_mono.specs.Checked.{both_fit, ◌>>=◌}
 use Rattle.ct_ore.specs.Naming.{Naming, actions_of, summed_of}
 use Rattle.ct_problem.specs.declared.expr.Expr.{Expr}
-use Rattle.ct_problem.specs.declared.first_form.Quotient.{Quotient}
-use Rattle.ct_problem.specs.declared.first_form.Report.{Report}
+use Rattle.ct_problem.specs.declared.report.Quotient.{Quotient}
+use Rattle.ct_problem.specs.declared.report.Report.{Report}
+use Rattle.ct_problem.specs.ReadProblem.{Reading}
 use Rattle.ct_problem.specs.Value.{value_of, checked_polynomial}
 use Rattle.ct_problem.specs.WellFormed.{IsReportOn}
-use Rattle.ct_run.specs.Checking.{checked_values, checked_polynomials, checked_quotients, checked_certificate, summands_of}
+use Rattle.ct_run.specs.Setup.{listed, checked_values, checked_setup}
+use Rattle.ct_run.specs.Checking.{checked_polynomials, checked_quotients, checked_certificate, summands_of}
 
 module _ (a : Name → Action) where
-  pub values_length :
+  values_length :
       (done : List Operator) (xs : List Expr) (vs : List Operator) → checked_values a done xs ≡ Ok vs →
       length vs ≡ length done + length xs
   values_length done [] vs fits = let same : done ≡ vs = cc in omega (arith, ap length same)
@@ -79,3 +81,13 @@ certificate_fits names generators r c on fits =
           (omega (arith, polynomials_length a [] r.factors factors.value factors.first, on.each_factor));
       cofactors = omega (arith, ap (λ (d : Certificate). length d.cofactors) whole, values_length a [] r.cofactors cofactors.value cofactors.first, on.each_cofactor);
     }
+
+-- a generator for each `gen` line
+pub setup_length : (p : Reading) (generators : List Operator) → checked_setup p ≡ Ok generators → length generators ≡ length (listed p.generators)
+unfolding checked_setup
+setup_length p generators fits =
+    let a = actions_of p.variables in
+    let listed_values = both_fit (checked_values a [] (listed p.generators)) _ generators fits in
+    let targets = both_fit (checked_values a [] p.targets) _ generators listed_values.rest in
+    let same : listed_values.value ≡ generators = cc in
+    omega (arith, values_length a [] (listed p.generators) listed_values.value listed_values.first, ap length same)

@@ -2,4 +2,6 @@ mod FrontRead
 mod Reported
 mod Parts
 mod CertificateFits
+mod NoLets
+mod ReducedTexts
 mod Shown

@@ -1,10 +1,12 @@
--- What `check` gives out for a text in the first form. The order of the steps is this project's own.
---     checked_values a done xs        the values of expressions, in order, behind those that are done
+-- What `check` gives out for a problem and a report in the first form. The order of the steps is this project's own.
 --     checked_certificate names r     what the expressions of a report stand for, in text order
---     checked_form form               the outcome and the line
+--     is_first p                      a problem of the first form: no `let`, `use` or `den` line, and one support
+--     checked_form p r                the outcome and the line
+--     checked_text bytes p end        the same for a problem, and the text behind it
 -- An overflow in the problem's expressions comes before one in the report's, and this before the first test.
 -- Above it: `IsShown` says what a yes means.
-use Rattle.std.specs.Prelude.{◌≡◌, Ok, Err, Some, List, [], ◌∷◌, ◌++◌, ℕ}
+use Rattle.std.specs.Prelude.{◌≡◌, ◌==◌, Bool, true, false, not, ◌&&◌, if◌then◌else◌, is_none, Ok, Err, Option, Some, None, List, [], ◌∷◌, ◌++◌, length, ℕ}
+use Rattle.std.specs.List.{list_all}
 use Rattle.ct_algebra.specs.Names.{Name}
 use Rattle.ct_algebra.specs.Polynomial.{Polynomial}
 use Rattle.ct_algebra.specs.Actions.{Action}
@@ -13,26 +15,23 @@ use Rattle.ct_algebra.specs.Certificate.{Summand, Certificate, Certifies}
 use Rattle.ct_mono.specs.Checked.{Checked, ◌>>=◌}
 use Rattle.ct_ore.specs.Naming.{Naming, actions_of, summed_of}
 use Rattle.ct_problem.specs.declared.expr.Expr.{Expr}
-use Rattle.ct_problem.specs.declared.first_form.FirstForm.{FirstForm}
-use Rattle.ct_problem.specs.declared.first_form.Problem.{Problem}
-use Rattle.ct_problem.specs.declared.first_form.Quotient.{Quotient}
-use Rattle.ct_problem.specs.declared.first_form.Report.{Report}
-use Rattle.ct_problem.specs.FirstForm.{first_form_of}
+use Rattle.ct_problem.specs.declared.problem.Range.{Range}
+use Rattle.ct_problem.specs.declared.report.Quotient.{Quotient}
+use Rattle.ct_problem.specs.declared.report.Report.{Report}
+use Rattle.ct_problem.specs.ReadProblem.{Reading, problem_of, is_empty, is_used}
+use Rattle.ct_problem.specs.ReadReport.{report_of}
 use Rattle.ct_problem.specs.Value.{value_of, checked_polynomial}
 use Rattle.ct_cert.specs.declared.place.Support.{Support}
 use Rattle.ct_cert.specs.Tests.{tests}
 use Rattle.ct_run.specs.Output.{Output}
-use Rattle.ct_run.specs.Lines.{overflow_in_setup, overflow_in_report, verdict_line}
+use Rattle.ct_io.specs.declared.command.Command.TheVariants.{Check}
+use Rattle.ct_run.specs.Lines.{not_yet, overflow_in_setup, overflow_in_report, verdict_line}
+pub use Rattle.ct_run.specs.Setup.{listed}
+use Rattle.ct_run.specs.Setup.{checked_values, checked_setup}
 
--- ---- the values of a text's expressions
+-- ---- the values of a report's expressions
 
 module _ (a : Name → Action) where
-  abbrev pub checked_values : List Operator → List Expr → Checked (List Operator)
-  checked_values done [] = Ok done
-  checked_values done (x ∷ xs) = do
-    value ← value_of a x
-    checked_values (done ++ value ∷ []) xs
-
   abbrev pub checked_polynomials : List Polynomial → List Expr → Checked (List Polynomial)
   checked_polynomials done [] = Ok done
   checked_polynomials done (x ∷ xs) = do
@@ -69,39 +68,60 @@ checked_certificate names r = do
 
 -- ---- the answer
 
--- the first support of a problem with one
-abbrev pub due_of : Problem → Support
-due_of p = record { index = 0; order = p.order; degree = p.degree }
+abbrev pub low_of : Option Range → ℕ
+low_of None = 0
+low_of (Some r) = r.low
+
+-- the first support of a problem
+abbrev pub due_of : Reading → Support
+due_of p = record { index = 0; order = low_of p.orders; degree = low_of p.degrees }
 
 abbrev pub found_of : Report → Support
 found_of r = record { index = r.index; order = r.order; degree = r.degree }
 
--- the tests of a certificate over these generators
-unfoldable pub tested : FirstForm → List Operator → Certificate → Output
-tested form generators c =
-    verdict_line form.problem.algebra
-    (tests (actions_of form.problem.algebra) (summed_of form.problem.algebra) generators (due_of form.problem) (found_of form.report) c)
+module _ (p : Reading) where
+  -- the tests of a certificate over these generators
+  unfoldable pub tested : Report → List Operator → Certificate → Output
+  tested r generators c =
+      verdict_line p.variables (tests (actions_of p.variables) (summed_of p.variables) generators (due_of p) (found_of r) c)
 
-abbrev pub by_certificate : FirstForm → List Operator → Checked Certificate → Output
-by_certificate form generators (Ok c) = tested form generators c
-by_certificate form generators (Err kind) = overflow_in_report kind
+  abbrev pub by_certificate : Report → List Operator → Checked Certificate → Output
+  by_certificate r generators (Ok c) = tested r generators c
+  by_certificate r generators (Err kind) = overflow_in_report kind
 
-abbrev pub by_generators : FirstForm → Checked (List Operator) → Output
-by_generators form (Ok generators) =
-    by_certificate form generators (checked_certificate form.problem.algebra form.report)
-by_generators form (Err kind) = overflow_in_setup kind
+  abbrev pub by_generators : Report → Checked (List Operator) → Output
+  by_generators r (Ok generators) = by_certificate r generators (checked_certificate p.variables r)
+  by_generators r (Err kind) = overflow_in_setup kind
 
-unfoldable pub checked_form : FirstForm → Output
-checked_form form = by_generators form (checked_values (actions_of form.problem.algebra) [] form.problem.generators)
+  unfoldable pub checked_form : Report → Output
+  checked_form r = by_generators r (checked_setup p)
+
+  abbrev pub by_report : Option Report → Output
+  by_report (Some r) = checked_form r
+  by_report None = not_yet
+
+abbrev pub is_single : Option Range → Bool
+is_single None = false
+is_single (Some r) = r.low == r.high
+
+unfoldable pub is_first : Reading → Bool
+is_first p =
+    is_empty p.definitions && (not (is_used p.generators) && (list_all is_none p.dens && (is_single p.orders && is_single p.degrees)))
+
+unfoldable pub checked_text : List ℕ → Reading → ℕ → Output
+checked_text bytes p end = if is_first p then by_report p (report_of p.variables (length (listed p.generators)) bytes end) else not_yet
 
 -- ---- what a yes means
 
 -- the bytes are a problem and a report, and the report's certificate certifies its telescoper over the problem's generators
 pub record IsShown (bytes : List ℕ) : Type 0 where
-  pub form : FirstForm
-  pub read : first_form_of bytes ≡ Some form
+  pub problem : Reading
+  pub end : ℕ
+  pub read : problem_of Check bytes ≡ Ok (problem, end)
+  pub report : Report
+  pub reported : report_of problem.variables (length (listed problem.generators)) bytes end ≡ Some report
   pub generators : List Operator
-  pub valued : checked_values (actions_of form.problem.algebra) [] form.problem.generators ≡ Ok generators
+  pub valued : checked_setup problem ≡ Ok generators
   pub certificate : Certificate
-  pub reported : checked_certificate form.problem.algebra form.report ≡ Ok certificate
-  pub certified : Certifies (actions_of form.problem.algebra) (summed_of form.problem.algebra) generators certificate
+  pub stated : checked_certificate problem.variables report ≡ Ok certificate
+  pub certified : Certifies (actions_of problem.variables) (summed_of problem.variables) generators certificate

@@ -1,10 +1,13 @@
--- The lines that `check` gives out, and their outcomes. This project's own.
+-- The single lines that a run gives out, and their outcomes. This project's own.
 --     line_of text                    the text, and the end of its line
---     not_yet                         a text of a form that isn't read
+--     bad_input e                     the first fault of a text
+--     not_yet                         a text of a form that isn't worked
+--     zero_generator g                the generator with this number is zero
 --     overflow_in_setup, overflow_in_report   an expression overflows in this kind
+--     overflow_in_reduction t kind    the reduction of the target with this number does
 --     yes_line, no_line, overflow_in_test     the tests pass, one fails at its place, or one overflows there
 --     verdict_line names t            the line of the tests' outcome
-use Rattle.std.specs.Prelude.{ℕ, List, [], ◌∷◌, ◌++◌, Ok, Err, codes, get_or}
+use Rattle.std.specs.Prelude.{ℕ, List, [], ◌∷◌, ◌++◌, Ok, Err, codes, decimal, get_or}
 use Rattle.ct_mono.specs.declared.fault.Kind.{Kind}
 use Rattle.ct_mono.specs.declared.fault.Kind.TheVariants.{Degree, Terms, Number, Size}
 use Rattle.ct_algebra.specs.Actions.{Still}
@@ -13,6 +16,9 @@ use Rattle.ct_ore.specs.declared.algebra.Role.TheVariants.{Param}
 use Rattle.ct_cert.specs.declared.place.Place.{Place}
 use Rattle.ct_cert.specs.declared.place.Place.TheVariants.{Found, Telescoper, Scale, Denominator, Part, Identity}
 use Rattle.ct_cert.specs.Testing.{Tested, Fails, Overflows}
+use Rattle.ct_problem.specs.declared.fault.BadInput as fault
+use Rattle.ct_problem.specs.declared.fault.BadKind.{BadKind}
+use Rattle.ct_problem.specs.declared.fault.BadKind.TheVariants as bad
 use Rattle.ct_run.specs.declared.status.Outcome.TheVariants.{Done, BadInput, Overflow, Usage, CheckNo}
 use Rattle.ct_run.specs.Output.{Output}
 
@@ -37,7 +43,32 @@ place_text names (Denominator i) = codes "denominator " ++ name_text names i
 place_text names (Part i) = codes "part " ++ name_text names i
 place_text names Identity = codes "identity"
 
--- the text is of a form that is not read
+unfoldable pub bad_text : BadKind → List ℕ
+bad_text bad.TooLong = codes "TooLong"
+bad_text bad.BadByte = codes "BadByte"
+bad_text bad.Unfinished = codes "Unfinished"
+bad_text bad.Syntax = codes "Syntax"
+bad_text bad.TooMany = codes "TooMany"
+bad_text bad.NameTooLong = codes "NameTooLong"
+bad_text bad.DuplicateName = codes "DuplicateName"
+bad_text bad.UnknownName = codes "UnknownName"
+bad_text bad.WrongKind = codes "WrongKind"
+bad_text bad.NumberTooLarge = codes "NumberTooLarge"
+bad_text bad.ZeroDenominator = codes "ZeroDenominator"
+bad_text bad.ExponentTooLarge = codes "ExponentTooLarge"
+bad_text bad.TooDeep = codes "TooDeep"
+bad_text bad.OutOfRange = codes "OutOfRange"
+bad_text bad.EmptyRange = codes "EmptyRange"
+bad_text bad.Missing = codes "Missing"
+bad_text bad.TrailingText = codes "TrailingText"
+
+unfoldable pub bad_input : fault.BadInput → Output
+bad_input e = record { outcome = BadInput; text = line_of (codes "bad input " ++ bad_text e.kind ++ codes " at " ++ decimal e.offset) }
+
+unfoldable pub zero_generator : ℕ → Output
+zero_generator place = record { outcome = BadInput; text = line_of (codes "bad input ZeroGenerator " ++ decimal place) }
+
+-- the text is of a form that is not worked
 abbrev pub not_yet : Output
 not_yet = record { outcome = BadInput; text = line_of (codes "bad input NotYet") }
 
@@ -53,6 +84,9 @@ overflow_in_setup kind = overflow_line (codes "overflow setup input ") kind
 
 unfoldable pub overflow_in_report : Kind → Output
 overflow_in_report kind = overflow_line (codes "overflow check input ") kind
+
+unfoldable pub overflow_in_reduction : ℕ → Kind → Output
+overflow_in_reduction place kind = overflow_line (codes "overflow reduce " ++ decimal place ++ codes " ") kind
 
 abbrev pub yes_line : Output
 yes_line = record { outcome = Done; text = line_of (codes "yes found 0") }

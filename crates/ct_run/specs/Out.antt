@@ -1,28 +1,44 @@
 -- What a run gives out for a command and a text. The formats are this project's own.
 --     largest_text        the most bytes that a text may have
---     checked_text bytes  what `check` gives out for a text within the limit
 --     out command bytes   what is given out for a command and the bytes of a text
+--     Means command bytes   what it means that a run of this command over these bytes is done
 -- A text past the limit is refused by its length alone, so no more than `largest_text + 1` bytes of it count.
--- `run` and `answer` cite it. Only `check` is a word of a command that is built.
-use Rattle.std.specs.Prelude.{ℕ, List, length, nat_lt, if◌then◌else◌, Option, Some, None}
+-- `run` and `answer` cite it. The words ask for no other commands than `check` and `reduce`.
+use Rattle.std.specs.Prelude.{ℕ, Bool, ◌||◌, not, List, length, if◌then◌else◌, Result, Ok, Err}
 use Rattle.ct_io.specs.declared.command.Command.{Command}
-use Rattle.ct_problem.specs.declared.first_form.FirstForm.{FirstForm}
-use Rattle.ct_problem.specs.FirstForm.{first_form_of}
+use Rattle.ct_io.specs.declared.command.Command.TheVariants.{Check, Reduce}
+use Rattle.ct_problem.specs.declared.fault.BadInput.{BadInput}
+use Rattle.ct_problem.specs.ReadProblem.{Reading, problem_of, is_empty, is_used, most_bytes}
+use Rattle.ct_run.specs.Checking.{checked_text, IsShown}
+use Rattle.ct_run.specs.Lines.{bad_input, not_yet}
 use Rattle.ct_run.specs.Output.{Output}
-use Rattle.ct_run.specs.Lines.{not_yet}
-use Rattle.ct_run.specs.Checking.{checked_form}
+use Rattle.ct_run.specs.Reducing.{reduced, AreReduced}
 
--- the most bytes that a text may have
 abbrev pub largest_text : ℕ
-largest_text = 67108864
+largest_text = most_bytes
 
-abbrev pub by_form : Option FirstForm → Output
-by_form (Some form) = checked_form form
-by_form None = not_yet
+-- a problem with a `let` or `use` line
+abbrev pub has_lists : Reading → Bool
+has_lists p = not (is_empty p.definitions) || is_used p.generators
 
-unfoldable pub checked_text : List ℕ → Output
-checked_text bytes = by_form (first_form_of bytes)
+unfoldable pub reduced_problem : Reading → Output
+reduced_problem p = if has_lists p then not_yet else reduced p
+
+abbrev pub by_command : Command → List ℕ → Reading → ℕ → Output
+by_command Check bytes p end = checked_text bytes p end
+by_command Reduce bytes p end = reduced_problem p
+by_command _ bytes p end = not_yet
+
+abbrev pub by_problem : Command → List ℕ → Result (Reading × ℕ) BadInput → Output
+by_problem command bytes (Ok p) = by_command command bytes p.0 p.1
+by_problem command bytes (Err e) = bad_input e
 
 -- what is given out for a command and the bytes of a text
 unfoldable pub out : Command → List ℕ → Output
-out command bytes = if nat_lt largest_text (length bytes) then not_yet else checked_text bytes
+out command bytes = by_problem command bytes (problem_of command bytes)
+
+-- a yes certifies, and each printed reduction is one
+abbrev pub Means : Command → List ℕ → Type 0
+Means Check bytes = IsShown bytes
+Means Reduce bytes = AreReduced bytes (out Reduce bytes).text
+Means _ bytes = Unit {0}

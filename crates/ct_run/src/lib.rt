@@ -9,9 +9,14 @@
 #![tactic(auto)]
 
 mod answer;
+mod bad_input;
+mod checking;
 mod lines;
 mod output;
 mod reading;
+mod reducing;
+mod reductions;
+mod setup;
 mod status;
 mod top;
 mod values;

@@ -1,5 +1,5 @@
-// The lines that `check` gives out.
-ghost use Rattle.std.specs.Prelude.{◌≡◌, ◌++◌, IfOk, OnOk};
+// The single lines that a run gives out.
+ghost use Rattle.std.specs.Prelude.{◌≡◌, ◌++◌, decimal, IfOk, OnOk};
 ghost use Rattle.ct_run.specs.Lines as spec;
 ghost use Rattle.ct_run.specs.Output.{output_of};
 
@@ -9,15 +9,30 @@ use ct_cert::{CheckFault, Place, Verdict};
 use ct_io::NoMemory;
 use ct_mono::Kind;
 use ct_ore::Algebra;
+use itoa::Buffer;
 use std::alloc::Global;
 
-/// The answer to a text of a form that is not read.
+/// The answer to a text of a form that is not worked.
 pub(crate) fn not_yet(alloc: Global) -> Result<Output, NoMemory>
     ensures value { IfOk result (λ output. output_of output ≡ spec.not_yet) }
 {
     Ok(Output {
         outcome: Outcome::BadInput,
         text: Vec::from_slice(alloc, b"bad input NotYet\n")?,
+    })
+}
+
+/// The generator with this number is zero.
+#[tactic(auto, unfolding(crate::specs::Lines::zero_generator))]
+pub(crate) fn zero_generator(alloc: Global, place: usize) -> Result<Output, NoMemory>
+    ensures value { IfOk result (λ output. output_of output ≡ spec.zero_generator place) }
+{
+    let mut text = Vec::from_slice(alloc, b"bad input ZeroGenerator ")?;
+    append_number(&mut text, place)?;
+    append(&mut text, b"\n")?;
+    Ok(Output {
+        outcome: Outcome::BadInput,
+        text,
     })
 }
 
@@ -36,6 +51,21 @@ pub(crate) fn overflow_in_report(alloc: Global, kind: Kind) -> Result<Output, No
     ensures value { IfOk result (λ output. output_of output ≡ spec.overflow_in_report kind) }
 {
     let text = Vec::from_slice(alloc, b"overflow check input ")?;
+    overflow_line(text, kind)
+}
+
+/// The reduction of the target with this number overflows.
+#[tactic(auto, unfolding(crate::specs::Lines::overflow_in_reduction))]
+pub(crate) fn overflow_in_reduction(
+    alloc: Global,
+    place: usize,
+    kind: Kind,
+) -> Result<Output, NoMemory>
+    ensures value { IfOk result (λ output. output_of output ≡ spec.overflow_in_reduction place kind) }
+{
+    let mut text = Vec::from_slice(alloc, b"overflow reduce ")?;
+    append_number(&mut text, place)?;
+    append(&mut text, b" ")?;
     overflow_line(text, kind)
 }
 
@@ -141,8 +171,15 @@ fn append_name(out: &mut Vec<u8>, algebra: &Algebra, i: u8) -> Result<(), NoMemo
     }
 }
 
-fn append(out: &mut Vec<u8>, text: &[u8]) -> Result<(), NoMemory>
+pub(crate) fn append(out: &mut Vec<u8>, text: &[u8]) -> Result<(), NoMemory>
     ensures { OnOk result (out.new.items ≡ out.old.items ++ text.now) }
 {
     out.extend_from_slice(text)
+}
+
+pub(crate) fn append_number(out: &mut Vec<u8>, n: usize) -> Result<(), NoMemory>
+    ensures { OnOk result (out.new.items ≡ out.old.items ++ decimal n) }
+{
+    let mut buffer = Buffer::new();
+    append(out, buffer.format(n).as_bytes())
 }

@@ -3,6 +3,7 @@ use crate::{MemSink, MemSource, NoGate, NoMemory, Status, run};
 use std::alloc::Global;
 use std::test::Fail;
 
+mod reductions;
 mod rows;
 
 const TEXT: &[u8] = b"no problem\n";
@@ -32,7 +33,7 @@ fn a_text_in_pieces_is_answered_whole(rt: HostRuntime) -> Result<(), Fail> {
     let mut sink = sink(alloc, 100, &[])?;
     let status = run(&rt, alloc, &words, &mut source, &mut sink, &NoGate);
     assert_eq!(rt; status.number(), 2);
-    assert_eq!(rt; sink.written(), b"bad input NotYet\n".as_slice());
+    assert_eq!(rt; sink.written(), b"bad input Syntax at 0\n".as_slice());
     assert_eq!(rt; source.unread(), b"".as_slice());
     Ok(())
 }

@@ -6,13 +6,14 @@ ghost use Rattle.ct_mono.specs.Checked.{AnswersBy};
 ghost use Rattle.ct_ore.specs.Answers.{certificate_of, summand_of};
 ghost use Rattle.ct_ore.specs.Naming.{actions_of};
 ghost use Rattle.ct_run.specs.Checking as spec;
+ghost use Rattle.ct_run.specs.Setup as setup;
 ghost use Rattle.ct_run.specs.Fractions.{pair_of};
-ghost use Rattle.ct_problem.specs.WellFormed.{Each, IsOperator, IsPolynomial, IsQuotient, IsWellFormed};
+ghost use Rattle.ct_problem.specs.WellFormed.{Each, IsOperator, IsPolynomial, IsQuotient, IsReportOn};
 
 use ct_mono::Fault;
 use ct_ore::{Algebra, Answer, Op, Part};
 use ct_poly::Poly;
-use ct_problem::{Expr, FirstForm, Quotient, evaluate, evaluate_polynomial, summed_names};
+use ct_problem::{Expr, Quotient, Report, evaluate, evaluate_polynomial, summed_names};
 use std::alloc::{AllocError, Global};
 
 // The values of a quotient's two expressions.
@@ -25,7 +26,7 @@ pub(crate) struct Fraction {
 /// The values of expressions, in order.
 pub(crate) fn values(alloc: Global, algebra: &Algebra, exprs: &[Expr]) -> Result<Vec<Op>, Fault>
     requires { Each IsOperator exprs.now }
-    ensures { AnswersBy (λ v. v.items) (spec.checked_values (actions_of algebra.now) [] exprs.now) result }
+    ensures { AnswersBy (λ v. v.items) (setup.checked_values (actions_of algebra.now) [] exprs.now) result }
 {
     let mut done = Vec::new(alloc);
     let mut rest = exprs;
@@ -41,13 +42,15 @@ pub(crate) fn values(alloc: Global, algebra: &Algebra, exprs: &[Expr]) -> Result
 
 /// What the expressions of a report stand for.
 #[tactic(auto, unfolding(crate::specs::Checking::checked_certificate))]
-pub(crate) fn certificate(alloc: Global, form: &FirstForm) -> Result<Answer, Fault>
-    requires { IsWellFormed form.now }
-    ensures answers { AnswersBy certificate_of (spec.checked_certificate form.now.problem.algebra form.now.report) result }
-    ensures known { IfOk result (λ answer. All (λ p. p.name < length form.now.problem.algebra) answer.parts.items) }
+pub(crate) fn certificate(
+    alloc: Global,
+    algebra: &Algebra,
+    report: &Report,
+) -> Result<Answer, Fault>
+    requires { (summed : ℕ) × (generators : ℕ) × IsReportOn summed generators report.now }
+    ensures answers { AnswersBy certificate_of (spec.checked_certificate algebra.now report.now) result }
+    ensures known { IfOk result (λ answer. All (λ p. p.name < length algebra.now) answer.parts.items) }
 {
-    let algebra = &form.problem.algebra;
-    let report = &form.report;
     let telescoper = evaluate(alloc, algebra, &report.telescoper)?;
     let quotients = quotients(alloc, algebra, report.quotients.as_slice())?;
     let scale = evaluate_polynomial(alloc, algebra, &report.scale)?;
@@ -146,7 +149,7 @@ fn part(name: u8, quotient: Fraction, factor: Poly) -> Part
     }
 }
 
-fn append<T: Drop>(values: &mut Vec<T>, value: T) -> Result<(), AllocError>
+pub(crate) fn append<T: Drop>(values: &mut Vec<T>, value: T) -> Result<(), AllocError>
     ensures { OnOk result (values.new.items ≡ values.old.items ++ value ∷ []) }
 {
     values.push(value)?;

@@ -10,6 +10,7 @@ pub fn read_words(words: &[String]) -> Option<Command>
 {
     match words {
         [word] if word.as_str() == "check" => Some(Command::Check),
+        [word] if word.as_str() == "reduce" => Some(Command::Reduce),
         _ => None,
     }
 }

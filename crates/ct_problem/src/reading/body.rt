@@ -1,41 +1,72 @@
-// What stands after the names.
-ghost use Rattle.ct_problem.specs.FirstForm as spec;
-ghost use Rattle.ct_problem.specs.Input.{Reads};
+// The lines between the first and the last.
+ghost use Rattle.std.specs.Prelude.{◌≡◌, [], length, IfOk};
+ghost use Rattle.ct_problem.specs.Draft.{reading_of_draft};
+ghost use Rattle.ct_problem.specs.Input.{ReadsBy};
+ghost use Rattle.ct_problem.specs.ReadProblem as spec;
 
 use crate::expr::Expr;
 use crate::fault::ReadFault;
-use crate::first_form::Report;
-use crate::reading::problem_lines::{generators, support};
-use crate::reading::report_lines::report;
+use crate::problem::{Gens, LetForm, Range};
+use crate::reading::declarations::declarations;
+use crate::reading::den_lines::den_lines;
+use crate::reading::let_lines::let_lines;
+use crate::reading::lines::{header, value_lines};
+use crate::reading::names::Names;
+use crate::reading::problem_lines::{generators, range_line};
 use crate::reading::tokens::Tokens;
 use sqlite_items::Items;
 use std::alloc::Global;
 
-/// The problem but for its names, and the report.
+/// A problem but for its end.
 #[derive(Drop)]
-pub struct Body {
-    pub generators: Items<Expr>,
-    pub order: u16,
-    pub degree: u16,
-    pub report: Report,
+pub struct Draft {
+    pub names: Names,
+    pub lets: Items<LetForm>,
+    pub gens: Gens,
+    pub dens: Items<Option<Expr>>,
+    pub targets: Items<Expr>,
+    pub orders: Option<Range>,
+    pub degrees: Option<Range>,
 }
 
-/// The lines after the names, where these are the texts of the summed ones.
-#[tactic(auto, unfolding(crate::specs::FirstForm::after_names))]
-pub fn after_names(
-    alloc: Global,
-    tokens: &mut Tokens<'_>,
-    summed: &[Items<u8>],
-) -> Result<Body, ReadFault>
-    ensures { Reads (spec.after_names summed.now tokens.old) result tokens.new }
+/// The first line, the names and the `let` lines.
+#[tactic(auto, unfolding(crate::specs::ReadProblem::head))]
+pub fn head(alloc: Global, tokens: &mut Tokens<'_>) -> Result<(Names, Items<LetForm>), ReadFault>
+    ensures reads { ReadsBy (λ h. (h.0.variables, spec.definitions_of h.0.lets h.1)) (spec.head tokens.old) result tokens.new }
+    ensures a_name_each { IfOk result (λ h. length h.0.lets ≡ length h.1) }
 {
-    let generators = generators(alloc, tokens)?;
-    let (order, degree) = support(tokens)?;
-    let report = report(alloc, tokens, summed, generators.len())?;
-    Ok(Body {
-        generators,
-        order,
-        degree,
-        report,
+    tokens.fresh_line()?;
+    header(tokens, b"problem")?;
+    let mut names = declarations(alloc, tokens)?;
+    let lets = let_lines(alloc, &mut names, tokens)?;
+    Ok((names, lets))
+}
+
+/// The lines behind the names and the `let` lines.
+#[tactic(auto, unfolding(crate::specs::ReadProblem::body, crate::specs::Draft::reading_of_draft))]
+pub fn body(
+    alloc: Global,
+    names: Names,
+    lets: Items<LetForm>,
+    tokens: &mut Tokens<'_>,
+) -> Result<Draft, ReadFault>
+    requires { length names.lets ≡ length lets }
+    ensures reads { ReadsBy reading_of_draft (spec.body names.variables (spec.definitions_of names.lets lets) tokens.old) result tokens.new }
+    ensures names { IfOk result (λ d. d.names ≡ names) }
+    ensures lets { IfOk result (λ d. d.lets ≡ lets) }
+{
+    let gens = generators(alloc, &names, tokens)?;
+    let dens = den_lines(alloc, &names, tokens)?;
+    let targets = value_lines(alloc, &names, tokens, b"target")?;
+    let orders = range_line(tokens, b"order", 8)?;
+    let degrees = range_line(tokens, b"degree", 12)?;
+    Ok(Draft {
+        names,
+        lets,
+        gens,
+        dens,
+        targets,
+        orders,
+        degrees,
     })
 }

@@ -1,23 +1,30 @@
 // The lines that declare names.
-ghost use Rattle.std.specs.Prelude.{◌≡◌, ◌≤◌, length, count_by, string_bytes, IfOk};
+ghost use Rattle.std.specs.Prelude.{◌≡◌, [], string_bytes, IfOk, IsTrue};
 ghost use Rattle.std.specs.Str.{IsAscii};
-ghost use Rattle.ct_ore.specs.Naming.{action_of, has_operator, naming_of, namings_of};
+ghost use Rattle.ct_ore.specs.Naming.{action_of, naming_of, namings_of};
 ghost use Rattle.ct_problem.specs.Declarations as spec;
-ghost use Rattle.ct_problem.specs.Input.{Reads, ReadsBy};
+ghost use Rattle.ct_problem.specs.Input.{ReadsBy};
+ghost use Rattle.ct_problem.specs.Names.{is_new};
 
-use crate::fault::ReadFault;
-use crate::reading::tokens::{Tokens, place_of};
+use crate::fault::{BadKind, ReadFault};
+use crate::reading::names::{Names, operator_count, summed_count};
+use crate::reading::tokens::Tokens;
 use ct_mono::NoMemory;
 use ct_ore::{Action, NameInfo, Role};
 use ct_token::Symbol;
-use sqlite_items::Items;
 use std::alloc::Global;
 
 /// How many names there may be.
 const MOST_NAMES: usize = 6;
 
 /// The bytes of a name.
-const MOST_BYTES: usize = 32;
+const LONGEST_NAME: usize = 32;
+
+/// How many names may have operators.
+const MOST_OPERATORS: usize = 4;
+
+/// How many names may be summed.
+const MOST_SUMMED: usize = 3;
 
 /// The word that begins a name line.
 #[derive(Clone, Copy)]
@@ -30,31 +37,34 @@ enum NameLine {
 
 /// The name lines.
 #[tactic(auto, unfolding(crate::specs::Declarations::declarations))]
-pub fn declarations(alloc: Global, tokens: &mut Tokens<'_>) -> Result<Vec<NameInfo>, ReadFault>
-    ensures reads { ReadsBy (λ v. namings_of v.items) (spec.declarations tokens.old) result tokens.new }
-    ensures few { IfOk result (λ v. length v.items ≤ 6) }
+pub fn declarations(alloc: Global, tokens: &mut Tokens<'_>) -> Result<Names, ReadFault>
+    ensures reads { ReadsBy (λ n. n.variables) (spec.declarations tokens.old) result tokens.new }
+    ensures no_lets { IfOk result (λ n. n.lets ≡ []) }
 {
     let names = name_lines(alloc, tokens)?;
-    if is_algebra(alloc, names.as_slice())? {
-        Ok(names)
+    if names.variables().is_empty() {
+        Err(tokens.fault(BadKind::Syntax))
     } else {
-        Err(ReadFault::NotYet)
+        Ok(names)
     }
 }
 
-fn name_lines(alloc: Global, tokens: &mut Tokens<'_>) -> Result<Vec<NameInfo>, ReadFault>
-    ensures reads { ReadsBy (λ v. namings_of v.items) (spec.name_lines tokens.old) result tokens.new }
-    ensures few { IfOk result (λ v. length v.items ≤ 6) }
+fn name_lines(alloc: Global, tokens: &mut Tokens<'_>) -> Result<Names, ReadFault>
+    ensures reads { ReadsBy (λ n. n.variables) (spec.declarations_from 6 [] tokens.old) result tokens.new }
+    ensures no_lets { IfOk result (λ n. n.lets ≡ []) }
 {
-    let mut found = Vec::new(alloc);
+    let mut names = Names::new(alloc);
     for _turn in 0..MOST_NAMES {
         let Some(line) = name_line(tokens) else {
-            return Ok(found);
+            return Ok(names);
         };
-        let info = declaration(alloc, tokens, line, found.as_slice())?;
-        found.push(info)?;
+        let info = declaration(alloc, &names, tokens, line)?;
+        names.add_variable(info)?;
     }
-    Ok(found)
+    match name_line(tokens) {
+        None => Ok(names),
+        Some(_) => Err(tokens.fault(BadKind::TooMany)),
+    }
 }
 
 /// Which name line begins here.
@@ -79,18 +89,19 @@ fn name_line(tokens: &Tokens<'_>) -> Option<NameLine>
 #[tactic(auto, unfolding(crate::specs::Declarations::declaration))]
 fn declaration(
     alloc: Global,
+    names: &Names,
     tokens: &mut Tokens<'_>,
     line: NameLine,
-    found: &[NameInfo],
 ) -> Result<NameInfo, ReadFault>
-    ensures { ReadsBy naming_of (spec.declaration line (namings_of found.now) tokens.old) result tokens.new }
+    requires { names.now.lets ≡ [] }
+    ensures reads { ReadsBy naming_of (spec.declaration line names.now.variables tokens.old) result tokens.new }
+    ensures other { IfOk result (λ info. IsTrue (is_new (string_bytes info.text) names.now)) }
 {
-    tokens.skip();
-    if !is_new_name(tokens, found) {
-        return Err(ReadFault::NotYet);
+    if is_full(line, names.variables()) {
+        return Err(tokens.fault(BadKind::TooMany));
     }
-    let text = text_of(alloc, tokens.spelling())?;
     tokens.skip();
+    let text = new_name(alloc, names, tokens)?;
     let action = action(tokens, line)?;
     tokens.line_end()?;
     Ok(NameInfo {
@@ -100,22 +111,25 @@ fn declaration(
     })
 }
 
-fn is_new_name(tokens: &Tokens<'_>, found: &[NameInfo]) -> bool
-    ensures { result ≡ spec.is_new_name (namings_of found.now) tokens.now }
+/// A name that is declared after these names.
+#[tactic(auto, unfolding(crate::specs::Declarations::new_name))]
+pub fn new_name(alloc: Global, names: &Names, tokens: &mut Tokens<'_>) -> Result<String, ReadFault>
+    ensures reads { ReadsBy string_bytes (spec.new_name names.now tokens.old) result tokens.new }
+    ensures other { IfOk result (λ text. IsTrue (is_new (string_bytes text) names.now)) }
 {
-    match tokens.peek() {
-        Some(Symbol::Word) => is_new(tokens.spelling(), found),
-        _ => false,
+    let Some(Symbol::Word) = tokens.peek() else {
+        return Err(tokens.fault(BadKind::Syntax));
+    };
+    let text = tokens.spelling();
+    if text.len() > LONGEST_NAME {
+        return Err(tokens.fault(BadKind::NameTooLong));
     }
-}
-
-#[tactic(auto, unfolding(crate::specs::DeclaredNames::is_new))]
-fn is_new(text: &[u8], found: &[NameInfo]) -> bool
-    ensures { result ≡ spec.is_new text.now (namings_of found.now) }
-{
-    text.len() <= MOST_BYTES
-        && !(text == b"S".as_slice() || text == b"D".as_slice())
-        && place_of(found, text, None).is_none()
+    if !names.is_new(text) {
+        return Err(tokens.fault(BadKind::DuplicateName));
+    }
+    let text = text_of(alloc, text)?;
+    tokens.skip();
+    Ok(text)
 }
 
 fn text_of(alloc: Global, text: &[u8]) -> Result<String, NoMemory>
@@ -124,6 +138,20 @@ fn text_of(alloc: Global, text: &[u8]) -> Result<String, NoMemory>
 {
     let bytes = Vec::from_slice(alloc, text)?;
     Ok(String::from_utf8(bytes).unwrap())
+}
+
+/// Whether these names leave no room for a name of this line.
+#[tactic(auto, unfolding(crate::specs::Declarations::is_full))]
+fn is_full(line: NameLine, found: &[NameInfo]) -> bool
+    ensures { result ≡ spec.is_full line (namings_of found.now) }
+{
+    match line {
+        NameLine::Free => operator_count(found) >= MOST_OPERATORS,
+        NameLine::Sum | NameLine::Int => {
+            operator_count(found) >= MOST_OPERATORS || summed_count(found) >= MOST_SUMMED
+        }
+        NameLine::Param => false,
+    }
 }
 
 fn action(tokens: &mut Tokens<'_>, line: NameLine) -> Result<Action, ReadFault>
@@ -157,38 +185,4 @@ fn role(line: NameLine) -> Role
         NameLine::Sum | NameLine::Int => Role::Summed,
         NameLine::Param => Role::Param,
     }
-}
-
-#[tactic(auto, unfolding(crate::specs::DeclaredNames::is_algebra))]
-fn is_algebra(alloc: Global, names: &[NameInfo]) -> Result<bool, NoMemory>
-    ensures { IfOk result (λ b. b ≡ spec.is_algebra (namings_of names.now)) }
-{
-    let summed = summed_texts(alloc, names)?.len();
-    Ok(operators(names) <= 4 && summed <= 3 && 1 <= summed)
-}
-
-/// How many names have operators.
-fn operators(names: &[NameInfo]) -> usize
-    ensures { result ≡ count_by has_operator (namings_of names.now) }
-{
-    let mut count = 0;
-    for info in names {
-        if !matches!(info.action, Action::Still) {
-            count += 1;
-        }
-    }
-    count
-}
-
-/// The texts of the summed names, in order.
-pub fn summed_texts(alloc: Global, names: &[NameInfo]) -> Result<Items<Items<u8>>, NoMemory>
-    ensures { IfOk result (λ texts. texts ≡ spec.summed_texts (namings_of names.now)) }
-{
-    let mut texts = Items::new(alloc);
-    for info in names {
-        if matches!(info.role, Role::Summed) {
-            texts.push(Items::from_slice(alloc, info.text.as_bytes())?)?;
-        }
-    }
-    Ok(texts)
 }

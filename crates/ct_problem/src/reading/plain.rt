@@ -1,6 +1,5 @@
-// The bytes of a text in the first form.
-ghost use Rattle.std.specs.Prelude.{◌≡◌, Some, true};
-ghost use Rattle.std.specs.Str.{IsAscii};
+// The bytes of a report in the plain form.
+ghost use Rattle.std.specs.Prelude.{◌≡◌, Some};
 ghost use Rattle.ct_problem.specs.Plain as spec;
 ghost use Rattle.ct_problem.specs.declared.reading.plain.Line.TheVariants.{Ended};
 
@@ -15,11 +14,10 @@ enum Line {
     Written,
 }
 
-/// Whether the bytes are those of a text in the first form.
+/// Whether the bytes may stand in a report of the plain form.
 #[tactic(auto, unfolding(crate::specs::Plain::is_plain))]
 pub fn is_plain(text: &[u8]) -> bool
-    ensures value { result ≡ spec.is_plain text.now }
-    ensures ascii { result ≡ true → IsAscii text.now }
+    ensures { result ≡ spec.is_plain text.now }
 {
     text.len() <= MOST_BYTES && matches!(last_line(text), Some(Line::Ended))
 }

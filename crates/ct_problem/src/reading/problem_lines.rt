@@ -1,54 +1,81 @@
-// The lines of a problem after its names.
-ghost use Rattle.std.specs.Prelude.{◌≤◌, IfOk};
+// The lines of a problem behind its names and `let` lines.
 ghost use Rattle.ct_problem.specs.Input.{Reads};
 ghost use Rattle.ct_problem.specs.ProblemLines as spec;
 
-use crate::expr::Expr;
-use crate::fault::ReadFault;
-use crate::reading::lines::{single, value};
+use crate::fault::{BadKind, ReadFault};
+use crate::problem::{Gens, Range};
+use crate::reading::let_lines::list_name;
+use crate::reading::lines::{no_more, value_lines};
+use crate::reading::names::Names;
+use crate::reading::numbers::{coming_number, number};
 use crate::reading::tokens::Tokens;
 use sqlite_items::Items;
 use std::alloc::Global;
 
-/// How many `gen` lines there may be after the first.
-const MORE_GENERATORS: usize = 15;
-
-/// The `gen` lines.
+/// The `gen` lines, or the `use` line in their place.
 #[tactic(auto, unfolding(crate::specs::ProblemLines::generators))]
-pub fn generators(alloc: Global, tokens: &mut Tokens<'_>) -> Result<Items<Expr>, ReadFault>
-    ensures { Reads (spec.generators tokens.old) result tokens.new }
+pub fn generators(alloc: Global, names: &Names, tokens: &mut Tokens<'_>) -> Result<Gens, ReadFault>
+    ensures { Reads (spec.generators names.now tokens.old) result tokens.new }
 {
-    tokens.expect_word(b"gen")?;
-    let first = value(alloc, tokens, true)?;
-    more_generators(alloc, tokens, first)
-}
-
-fn more_generators(
-    alloc: Global,
-    tokens: &mut Tokens<'_>,
-    first: Expr,
-) -> Result<Items<Expr>, ReadFault>
-    ensures { Reads (spec.more_generators first tokens.old) result tokens.new }
-{
-    let mut found = Items::new(alloc);
-    found.push(first)?;
-    for _turn in 0..MORE_GENERATORS {
-        if !tokens.eat_word(b"gen") {
-            return Ok(found);
-        }
-        found.push(value(alloc, tokens, true)?)?;
+    let listed = value_lines(alloc, names, tokens, b"gen")?;
+    if listed.is_empty() && tokens.eat_word(b"use") {
+        used(names, tokens)
+    } else {
+        Ok(Gens::Listed(listed))
     }
-    Ok(found)
 }
 
-/// The order and the degree, up to the end of the problem.
-#[tactic(auto, unfolding(crate::specs::ProblemLines::support))]
-pub fn support(tokens: &mut Tokens<'_>) -> Result<(u16, u16), ReadFault>
-    ensures { Reads (spec.support tokens.old) result tokens.new }
+/// A `use` line behind its first word.
+#[tactic(auto, unfolding(crate::specs::ProblemLines::used))]
+fn used(names: &Names, tokens: &mut Tokens<'_>) -> Result<Gens, ReadFault>
+    ensures { Reads (spec.used names.now tokens.old) result tokens.new }
 {
-    let order = single(tokens, b"order", 8)?;
-    let degree = single(tokens, b"degree", 12)?;
-    tokens.expect_word(b"end")?;
+    let at = list_name(names, tokens)?;
     tokens.line_end()?;
-    Ok((order as u16, degree as u16))
+    no_more(tokens, b"use")?;
+    Ok(Gens::Named(at))
+}
+
+/// The line of a range, if it is there.
+#[tactic(auto, unfolding(crate::specs::ProblemLines::range_line))]
+pub fn range_line(
+    tokens: &mut Tokens<'_>,
+    key: &[u8],
+    limit: u16,
+) -> Result<Option<Range>, ReadFault>
+    ensures { Reads (spec.range_line key.now limit tokens.old) result tokens.new }
+{
+    if !tokens.eat_word(key) {
+        return Ok(None);
+    }
+    let range = range(tokens, limit)?;
+    tokens.line_end()?;
+    no_more(tokens, key)?;
+    Ok(Some(range))
+}
+
+#[tactic(auto, unfolding(crate::specs::ProblemLines::range))]
+fn range(tokens: &mut Tokens<'_>, limit: u16) -> Result<Range, ReadFault>
+    ensures { Reads (spec.range limit tokens.old) result tokens.new }
+{
+    let low = number(tokens, u128::from(limit), BadKind::OutOfRange)? as u16;
+    tokens.dots()?;
+    let high = high_number(tokens, limit, low)?;
+    Ok(Range { low, high })
+}
+
+/// The second number of a range.
+#[tactic(auto, unfolding(crate::specs::ProblemLines::high_number))]
+fn high_number(tokens: &mut Tokens<'_>, limit: u16, low: u16) -> Result<u16, ReadFault>
+    ensures { Reads (spec.high_number limit low tokens.old) result tokens.new }
+{
+    let n = coming_number(tokens)?;
+    if n > u128::from(limit) {
+        return Err(tokens.fault(BadKind::OutOfRange));
+    }
+    if n < u128::from(low) {
+        return Err(tokens.fault(BadKind::EmptyRange));
+    }
+    tokens.skip();
+    Ok(n as u16)
 }

@@ -1,22 +1,22 @@
 // A cursor over the tokens of a text.
-ghost use Rattle.std.specs.Prelude.{◌≡◌, ◌<◌, ◌≤◌, length, position, string_bytes, IfSome, Some};
-ghost use Rattle.std.specs.Str.{IsAscii};
-ghost use Rattle.ct_ore.specs.Naming.{action_of, naming_of, namings_of};
-ghost use Rattle.ct_problem.specs.Cursor.{letter_of};
+ghost use Rattle.std.specs.Prelude.{◌≡◌, length, Ok, Some};
+ghost use Rattle.ct_problem.specs.Cursor.{input_at, IsCursor, IsSpelled};
 ghost use Rattle.ct_problem.specs.Input as spec;
 ghost use Rattle.ct_problem.specs.Input.{Reads};
+ghost use Rattle.ct_problem.specs.ReadProblem.{end_in};
+ghost use Rattle.ct_problem.specs.declared.fault.ReadFault.TheVariants.{Bad};
+ghost use Rattle.ct_token.specs.Lexical.{is_line_end};
 
-use crate::fault::ReadFault;
-use ct_ore::{Action, NameInfo};
+use crate::fault::{BadInput, BadKind, ReadFault};
 use ct_token::{Symbol, Token};
 use std::marker::Model;
 
-/// The tokens that are left of a text, and the names that are declared.
+/// The tokens that are left of a text, and where the first byte stands behind them that begins none.
 #[derive(Drop)]
 pub struct Tokens<'a> {
     text: &'a [u8],
     left: &'a [Token],
-    names: &'a [NameInfo],
+    bad: Option<usize>,
 }
 
 impl<'a> Model for Tokens<'a> {
@@ -31,24 +31,11 @@ impl<'a> Model for Tokens<'a> {
 }
 
 impl<'a> Tokens<'a> {
-    pub fn new(text: &'a [u8], left: &'a [Token]) -> Tokens<'a>
-        requires { IsAscii text.now }
-        ensures { result ≡ spec.input_at text.now left.now }
+    pub fn new(text: &'a [u8], left: &'a [Token], bad: Option<usize>) -> Tokens<'a>
+        requires { IsCursor text.now left.now }
+        ensures { result ≡ input_at text.now left.now bad }
     {
-        Tokens {
-            text,
-            left,
-            names: &[],
-        }
-    }
-
-    /// The same tokens, under these names.
-    pub fn with_names(self, names: &'a [NameInfo]) -> Tokens<'a>
-        requires { length names.now ≤ 6 }
-        ensures { result ≡ spec.with_names (namings_of names.now) self.entry }
-    {
-        let Tokens { text, left, .. } = self;
-        Tokens { text, left, names }
+        Tokens { text, left, bad }
     }
 
     pub fn peek(&self) -> Option<Symbol>
@@ -78,12 +65,54 @@ impl<'a> Tokens<'a> {
     /// The bytes of the next token.
     pub fn spelling(&self) -> &'a [u8]
         ensures value { result.now ≡ spec.spelling self.now }
-        ensures ascii { IsAscii result.now }
+        ensures ascii { IsSpelled self.now result.now }
     {
         match self.left {
             [first, ..] => slice_of(self.text, first.from, first.to),
             [] => &[],
         }
+    }
+
+    /// Where the next token begins; at the end, how long the text is.
+    pub fn place(&self) -> usize
+        ensures { result ≡ spec.place self.now }
+    {
+        match self.left {
+            [first, ..] => first.from,
+            [] => self.text.len(),
+        }
+    }
+
+    /// Where the next token ends.
+    pub fn end(&self) -> usize
+        ensures { result ≡ end_in self.now.left }
+    {
+        match self.left {
+            [first, ..] => first.to,
+            [] => 0,
+        }
+    }
+
+    /// How long the text is.
+    pub fn text_len(&self) -> usize
+        ensures { result ≡ length self.now.text }
+    {
+        self.text.len()
+    }
+
+    /// A fault at the next token.
+    #[tactic(auto, unfolding(crate::specs::Input::fault_of))]
+    pub fn fault(&self, kind: BadKind) -> ReadFault
+        ensures { result ≡ Bad (spec.fault_of kind self.now) }
+    {
+        let kind = match self.left {
+            [_, ..] => kind,
+            [] => BadKind::Unfinished,
+        };
+        ReadFault::Bad(BadInput {
+            kind,
+            offset: self.place(),
+        })
     }
 
     #[tactic(auto, unfolding(crate::specs::Input::sees))]
@@ -98,7 +127,7 @@ impl<'a> Tokens<'a> {
 
     #[tactic(auto, unfolding(crate::specs::Input::eat))]
     pub fn eat(&mut self, sign: u8) -> bool
-        ensures { spec.eat sign self.old ≡ Some (result, self.new) }
+        ensures { spec.eat sign self.old ≡ Ok (result, self.new) }
     {
         let found = self.sees(sign);
         if found {
@@ -114,7 +143,7 @@ impl<'a> Tokens<'a> {
         if self.eat(sign) {
             Ok(())
         } else {
-            Err(ReadFault::NotYet)
+            Err(self.fault(BadKind::Syntax))
         }
     }
 
@@ -130,7 +159,7 @@ impl<'a> Tokens<'a> {
 
     #[tactic(auto, unfolding(crate::specs::Input::eat_word))]
     pub fn eat_word(&mut self, word: &[u8]) -> bool
-        ensures { spec.eat_word word.now self.old ≡ Some (result, self.new) }
+        ensures { spec.eat_word word.now self.old ≡ Ok (result, self.new) }
     {
         let found = self.sees_word(word);
         if found {
@@ -146,7 +175,21 @@ impl<'a> Tokens<'a> {
         if self.eat_word(word) {
             Ok(())
         } else {
-            Err(ReadFault::NotYet)
+            Err(self.fault(BadKind::Syntax))
+        }
+    }
+
+    /// The step to a line, which may have a byte that begins no token.
+    #[tactic(auto, unfolding(crate::specs::Input::fresh_line))]
+    pub fn fresh_line(&self) -> Result<(), ReadFault>
+        ensures { Reads (spec.fresh_line self.now) result self.now }
+    {
+        match self.bad {
+            Some(offset) if !has_line_end(self.left) => Err(ReadFault::Bad(BadInput {
+                kind: BadKind::BadByte,
+                offset,
+            })),
+            _ => Ok(()),
         }
     }
 
@@ -157,9 +200,10 @@ impl<'a> Tokens<'a> {
         match self.peek() {
             Some(Symbol::LineEnd) => {
                 self.skip();
-                Ok(())
+                self.fresh_line()
             }
-            _ => Err(ReadFault::NotYet),
+            None => Ok(()),
+            _ => Err(self.fault(BadKind::Syntax)),
         }
     }
 
@@ -172,59 +216,24 @@ impl<'a> Tokens<'a> {
                 self.skip();
                 Ok(())
             }
-            _ => Err(ReadFault::NotYet),
+            _ => Err(self.fault(BadKind::Syntax)),
         }
-    }
-
-    /// The number of the name that the next token spells, among all or among those of an action.
-    pub fn place_of_name(&self, wanted: Option<Action>) -> Option<usize>
-        ensures value { result ≡ spec.place_of_name (letter_of wanted) self.now }
-        ensures within { IfSome result (λ at. at < 6) }
-    {
-        place_of(self.names, self.spelling(), wanted)
     }
 }
 
 #[tactic(auto, unfolding(crate::specs::Input::slice_of))]
 fn slice_of(text: &[u8], from: usize, to: usize) -> &[u8]
-    requires { IsAscii text.now }
-    ensures value { result.now ≡ spec.slice_of from to text.now }
-    ensures ascii { IsAscii result.now }
+    ensures { result.now ≡ spec.slice_of from to text.now }
 {
     let (_, rest) = text.split_at(from.min(text.len()));
     let (front, _) = rest.split_at(to.saturating_sub(from).min(rest.len()));
     front
 }
 
-fn is_named(info: &NameInfo, text: &[u8]) -> bool
-    ensures { result ≡ spec.is_named text.now (naming_of info.now) }
+#[tactic(auto, unfolding(crate::specs::Input::has_line_end))]
+fn has_line_end(left: &[Token]) -> bool
+    ensures { result ≡ spec.has_line_end left.now }
 {
-    text == info.text.as_bytes()
-}
-
-fn same_action(a: Action, b: Action) -> bool
-    ensures { result ≡ spec.same_action (action_of a) (action_of b) }
-{
-    matches!(
-        (a, b),
-        (Action::Shift, Action::Shift)
-            | (Action::Derive, Action::Derive)
-            | (Action::Still, Action::Still)
-    )
-}
-
-fn is_wanted(info: &NameInfo, text: &[u8], wanted: Option<Action>) -> bool
-    ensures { result ≡ spec.is_wanted (letter_of wanted) text.now (naming_of info.now) }
-{
-    match wanted {
-        None => is_named(info, text),
-        Some(action) => is_named(info, text) && same_action(info.action, action),
-    }
-}
-
-pub fn place_of(names: &[NameInfo], text: &[u8], wanted: Option<Action>) -> Option<usize>
-    ensures value { result ≡ position (spec.is_wanted (letter_of wanted) text.now) (namings_of names.now) }
-    ensures within { IfSome result (λ at. at < length names.now) }
-{
-    names.iter().position(|info| is_wanted(info, text, wanted))
+    left.iter()
+        .any(|token| matches!(token.symbol, Symbol::LineEnd))
 }

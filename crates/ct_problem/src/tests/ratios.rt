@@ -2,7 +2,7 @@
 ghost use Rattle.std.specs.Prelude.{◌<◌, ◌≤◌, ◌≤ℤ◌, negsuc};
 ghost use Rattle.ct_mono.specs.Limits.{largest_norm};
 
-use super::is_operator;
+use crate::tests::values::is_operator;
 use crate::value::Value;
 use ct_mono::{Fault, Kind, LARGEST_NORM, NoMemory};
 use ct_ore::{Action, Algebra, NameInfo, Op, Role};

@@ -70,7 +70,7 @@ const THIN_ROWS: [(usize, &str, u8, &str); 38] = [
         3,
         "gen 170141183460469231731687303715884105728*S[n]",
         2,
-        "bad input NotYet\n",
+        "bad input NumberTooLarge at 39\n",
     ),
     (
         13,
@@ -90,16 +90,16 @@ const THIN_ROWS: [(usize, &str, u8, &str); 38] = [
         3,
         "overflow check input number\n",
     ),
-    (1, "free n diff", 2, "bad input NotYet\n"),
-    (0, "mgfun problem 2", 2, "bad input NotYet\n"),
-    (2, "sum n", 2, "bad input NotYet\n"),
-    (7, "", 2, "bad input NotYet\n"),
+    (1, "free n diff", 2, "bad input WrongKind at 40\n"),
+    (0, "mgfun problem 2", 2, "bad input Syntax at 14\n"),
+    (2, "sum n", 2, "bad input DuplicateName at 33\n"),
+    (7, "", 2, "bad input Syntax at 85\n"),
     (9, "none", 2, "bad input NotYet\n"),
     (17, "end end", 2, "bad input NotYet\n"),
     (16, "cofactor 3: 0", 2, "bad input NotYet\n"),
     (11, "numerator n: 0", 2, "bad input NotYet\n"),
     (10, "telescoper S[n] - 4/2", 2, "bad input NotYet\n"),
-    (3, "gen S[m] - 2", 2, "bad input NotYet\n"),
+    (3, "gen S[m] - 2", 2, "bad input UnknownName at 41\n"),
 ];
 
 /// A double sum, with a report that a person wrote.
@@ -146,7 +146,7 @@ const DOUBLE_ROWS: [(usize, &str, u8, &str); 11] = [
     (11, "found 1 order 1 degree 1", 8, "no found\n"),
     (19, "part j: n - k + 1", 8, "no part j\n"),
     (16, "denominator j: (n - n)^3", 8, "no denominator j\n"),
-    (2, "int k", 2, "bad input NotYet\n"),
+    (2, "int k", 2, "bad input WrongKind at 90\n"),
     (
         17,
         "scale 85070591730234615865843651857942052864*2",

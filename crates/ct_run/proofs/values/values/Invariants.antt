@@ -1,7 +1,7 @@
 use Rattle.std.proofs.Common.{◌≡◌, [], length}
 use Rattle.ct_ore.specs.Naming.{actions_of}
 use Rattle.ct_problem.specs.WellFormed.{Each, IsOperator}
-use Rattle.ct_run.specs.Checking.{checked_values}
+use Rattle.ct_run.specs.Setup.{checked_values}
 use Rattle.ct_run.proofs.values.values.Given as goal
 
 -- what is done and what is left

@@ -1,0 +1,203 @@
+-- The last line of a plain text has its end: its last token is no word. Main lemma `no_word_is_last`.
+use Rattle.std.proofs.Common.{◌≡◌, ◌≢◌, ℕ, ◌+◌, ◌==◌, Bool, true, false, List, [], ◌∷◌, ◌++◌, length, drop, nat_le, Option, Some, None, IsTrue, ◌⊎◌, inl, inr, refl, sym, ap, ◌∙◌, subst, rules, arith, tests}
+use Rattle.std.specs.List.{list_all}
+use Rattle.std.proofs.lemmas.Bool.{false≢true}
+use Rattle.std.proofs.lemmas.Grind.{common_steps}
+use Rattle.std.proofs.lemmas.List.{append-nil}
+use Rattle.ct_token.specs.declared.token.Symbol.{Symbol}
+use Rattle.ct_token.specs.declared.token.Symbol.TheVariants.{Word, Number, Sign, Dots, LineEnd}
+use Rattle.ct_token.specs.declared.token.Token.{Token}
+use Rattle.ct_token.specs.Cutting.{Stretch, Gap, Lexeme, AreStretches, IsGap, IsBlank, IsEnding, bytes_of, tokens_at}
+use Rattle.ct_token.specs.Lexical.{scan_of, is_blank, is_printable, is_letter, is_word_byte, is_line_end}
+use Rattle.ct_token.specs.Lexing.{Spells, IsWord}
+use Rattle.ct_token.proofs.Cuts.{scans_cut_the_text}
+use Rattle.ct_problem.specs.declared.reading.plain.Line.{Line}
+use Rattle.ct_problem.specs.declared.reading.plain.Line.TheVariants.{Ended, Blank, Written}
+use Rattle.ct_problem.specs.Plain.{line_after, after_all, ends, is_plain}
+use Rattle.ct_problem.proofs.Cursors.{both_pass}
+use Rattle.ct_problem.proofs.Plainness.{after_all-None}
+
+-- ---- the last byte
+
+-- a line feed comes last
+abbrev pub LastEnds : List ℕ → Type 0
+LastEnds [] = ⊥
+LastEnds (b ∷ []) = b ≡ 10
+LastEnds (b ∷ c ∷ bs) = LastEnds (c ∷ bs)
+
+LastEnds-cons : (b : ℕ) (bs : List ℕ) → LastEnds bs → LastEnds (b ∷ bs)
+LastEnds-cons b [] h = absurd h
+LastEnds-cons b (c ∷ bs) h = h
+
+LastEnds-back : (xs : List ℕ) (c : ℕ) (ys : List ℕ) → LastEnds (xs ++ c ∷ ys) → LastEnds (c ∷ ys)
+LastEnds-back [] c ys h = h
+LastEnds-back (x ∷ []) c ys h = h
+LastEnds-back (x ∷ y ∷ xs) c ys h = LastEnds-back (y ∷ xs) c ys h
+
+-- no byte is a line feed
+abbrev NoFeed : List ℕ → Type 0
+NoFeed [] = Unit {0}
+NoFeed (b ∷ bs) = (b ≢ 10) × NoFeed bs
+
+none_last : (bs : List ℕ) → NoFeed bs → LastEnds bs → ⊥
+none_last [] clean h = h
+none_last (b ∷ []) clean h = clean.0 h
+none_last (b ∷ c ∷ bs) clean h = none_last (c ∷ bs) clean.1 h
+
+NoFeed-append : (xs ys : List ℕ) → NoFeed xs → NoFeed ys → NoFeed (xs ++ ys)
+NoFeed-append [] ys a b = b
+NoFeed-append (x ∷ xs) ys a b = (a.0, NoFeed-append xs ys a.1 b)
+
+-- ---- plain texts
+
+ended_by : (line : Line) (b : ℕ) → line_after line b ≡ Some Ended → b ≡ 10
+unfolding line_after
+ended_by line b e = first_of (search (rules, tests), grind (arith, common_steps), grind (arith, tests))
+
+plain_last : (bs : List ℕ) (line : Line) → after_all (Some line) bs ≡ Some Ended → (bs ≡ []) ⊎ LastEnds bs
+unfolding after_all
+plain_last [] line e = inl refl
+plain_last (b ∷ bs) line e = by (line_after line b) refl (λ next h. plain_last bs next h) e
+  where
+    last : (cs : List ℕ) (next : Line) → line_after line b ≡ Some next → after_all (Some next) cs ≡ Some Ended → (cs ≡ []) ⊎ LastEnds cs → LastEnds (b ∷ cs)
+    last [] next q h found = let same : next ≡ Ended = cc in ended_by line b (q ∙ ap (λ (l : Line). let o : Option Line = Some l in o) same)
+    last (c ∷ cs) next q h (inl none) = cc
+    last (c ∷ cs) next q h (inr found) = found
+
+    by : (o : Option Line) → line_after line b ≡ o → ((next : Line) → after_all (Some next) bs ≡ Some Ended → (bs ≡ []) ⊎ LastEnds bs) → after_all o bs ≡ Some Ended → (b ∷ bs ≡ []) ⊎ LastEnds (b ∷ bs)
+    by None q more h = let none = after_all-None bs in cc
+    by (Some next) q more h = inr (last bs next q h (more next h))
+
+all_ended : (o : Option Line) → ends o ≡ true → o ≡ Some Ended
+all_ended (Some Ended) h = refl
+all_ended (Some Blank) h = absurd (false≢true h)
+all_ended (Some Written) h = absurd (false≢true h)
+all_ended None h = absurd (false≢true h)
+
+-- ---- stretches
+
+word_byte : (b : ℕ) → IsTrue (is_word_byte b) → b ≢ 10
+word_byte b h same = absurd (false≢true (subst (λ (c : ℕ). is_word_byte c ≡ true) same h))
+
+word_bytes : (bs : List ℕ) → IsTrue (list_all is_word_byte bs) → NoFeed bs
+word_bytes [] h = tt
+word_bytes (b ∷ bs) h = let parts = both_pass (is_word_byte b) (list_all is_word_byte bs) h in (word_byte b parts.0, word_bytes bs parts.1)
+
+word_has_none : (bs : List ℕ) → IsWord bs → NoFeed bs
+word_has_none [] h = absurd h
+word_has_none (b ∷ bs) h = ((λ same. absurd (false≢true (subst (λ (c : ℕ). is_letter c ≡ true) same h.0))), word_bytes bs h.1)
+
+blank_has_none : (bs : List ℕ) → IsBlank bs → NoFeed bs
+blank_has_none bs h = subst NoFeed (sym h.1) ((λ same. absurd (false≢true (subst (λ (c : ℕ). is_blank c ≡ true) same h.2))), tt)
+
+-- only blanks come behind the last token of a line that doesn't end
+blanks_have_none : (ss : List Stretch) (rest : List ℕ) (at : ℕ) → AreStretches false ss rest → tokens_at at ss ≡ [] → NoFeed (bytes_of ss)
+blanks_have_none [] rest at each none = tt
+blanks_have_none (Gap bs ∷ ss) rest at each none = NoFeed-append bs (bytes_of ss) (by each.0) (blanks_have_none ss rest (at + length bs) each.1 none)
+  where
+    by : IsGap false bs (bytes_of ss ++ rest) → NoFeed bs
+    by (inl blank) = blank_has_none bs blank
+    by (inr other) = absurd (false≢true other.0)
+blanks_have_none (Lexeme s bs ∷ ss) rest at each none = cc
+
+spelled_some : (s : Symbol) (bs : List ℕ) → Spells s bs → (c : ℕ) × (cs : List ℕ) × (bs ≡ c ∷ cs)
+spelled_some Word [] h = absurd h
+spelled_some Word (c ∷ cs) h = (c, cs, refl)
+spelled_some Number [] h = absurd h
+spelled_some Number (c ∷ cs) h = (c, cs, refl)
+spelled_some (Sign s) bs h = (s, [], h.0)
+spelled_some Dots bs h = (46, 46 ∷ [], h)
+spelled_some LineEnd bs (inl h) = (10, [], h)
+spelled_some LineEnd bs (inr h) = (13, 10 ∷ [], h)
+
+-- the bytes of stretches with a token are some
+some_bytes : (fresh : Bool) (ss : List Stretch) (rest : List ℕ) (at : ℕ) (t : Token) (ts : List Token) → AreStretches fresh ss rest → tokens_at at ss ≡ t ∷ ts → (c : ℕ) × (cs : List ℕ) × (bytes_of ss ≡ c ∷ cs)
+some_bytes fresh [] rest at t ts each e = cc
+some_bytes fresh (Gap [] ∷ ss) rest at t ts each e = some_bytes fresh ss rest (at + 0) t ts each.1 e
+some_bytes fresh (Gap (b ∷ bs) ∷ ss) rest at t ts each e = (b, bs ++ bytes_of ss, refl)
+some_bytes fresh (Lexeme s bs ∷ ss) rest at t ts each e = let some = spelled_some s bs each.0.spelled in (some.0, some.1 ++ bytes_of ss, ap (λ (xs : List ℕ). xs ++ bytes_of ss) some.2)
+
+-- where a line feed comes last, it does in what ends with a token
+later_ends : (xs ys : List ℕ) (c : ℕ) (cs : List ℕ) → ys ≡ c ∷ cs → LastEnds (xs ++ ys) → LastEnds ys
+later_ends xs ys c cs e h = subst LastEnds (sym e) (LastEnds-back xs c cs (subst (λ (zs : List ℕ). LastEnds (xs ++ zs)) e h))
+
+-- the first of some tokens
+first_token : (front : List Token) (t : Token) → (u : Token) × (us : List Token) × (front ++ t ∷ [] ≡ u ∷ us)
+first_token [] t = (t, [], refl)
+first_token (u ∷ front) t = (u, front ++ t ∷ [], refl)
+
+no_word_last : (fresh : Bool) (ss : List Stretch) (rest : List ℕ) (at : ℕ) (front : List Token) (t : Token) → AreStretches fresh ss rest → tokens_at at ss ≡ front ++ t ∷ [] → t.symbol ≡ Word → LastEnds (bytes_of ss) → ⊥
+no_word_last fresh [] rest at [] t each e word last = cc
+no_word_last fresh [] rest at (u ∷ front) t each e word last = cc
+no_word_last fresh (Gap bs ∷ ss) rest at [] t each e word last =
+    let some = some_bytes fresh ss rest (at + length bs) t [] each.1 e in
+    no_word_last fresh ss rest (at + length bs) [] t each.1 e word (later_ends bs (bytes_of ss) some.0 some.1 some.2 last)
+no_word_last fresh (Gap bs ∷ ss) rest at (u ∷ front) t each e word last =
+    let some = some_bytes fresh ss rest (at + length bs) u (front ++ t ∷ []) each.1 e in
+    no_word_last fresh ss rest (at + length bs) (u ∷ front) t each.1 e word (later_ends bs (bytes_of ss) some.0 some.1 some.2 last)
+no_word_last fresh (Lexeme s bs ∷ ss) rest at [] t each e word last =
+    let first : ◌≡◌ {A = Token} (record { symbol = s; from = at; to = at + length bs }) t = cc in
+    let none : tokens_at (at + length bs) ss ≡ [] = cc in
+    let is : s ≡ Word = ap (λ (u : Token). u.symbol) first ∙ word in
+    let spelled : IsWord bs = subst (λ (r : Symbol). Spells r bs) is each.0.spelled in
+    let behind : AreStretches false ss rest = subst (λ (r : Symbol). AreStretches (is_line_end r) ss rest) is each.1 in
+    none_last (bs ++ bytes_of ss) (NoFeed-append bs (bytes_of ss) (word_has_none bs spelled) (blanks_have_none ss rest (at + length bs) behind none)) last
+no_word_last fresh (Lexeme s bs ∷ ss) rest at (u ∷ front) t each e word last =
+    let others : tokens_at (at + length bs) ss ≡ front ++ t ∷ [] = cc in
+    let head = first_token front t in
+    let some = some_bytes (is_line_end s) ss rest (at + length bs) head.0 head.1 each.1 (others ∙ head.2) in
+    no_word_last (is_line_end s) ss rest (at + length bs) front t each.1 others word (later_ends bs (bytes_of ss) some.0 some.1 some.2 last)
+
+-- ---- the text
+
+nothing_behind : (at : ℕ) (rest : List ℕ) (bad : Option ℕ) → IsEnding at rest bad → bad ≡ None → rest ≡ []
+nothing_behind at [] bad h none = refl
+nothing_behind at (b ∷ bs) bad h none = let some = sym h.0 ∙ none in cc
+
+-- a byte that may stand in a plain line begins a token or a gap
+stands : (line next : Line) (b : ℕ) → line_after line b ≡ Some next → is_blank b ≡ false → is_printable b ≡ false → (b == 10) ≡ false → ⊥
+unfolding line_after
+stands line next b e blank printable feed = first_of (search (rules, tests), grind (arith, common_steps), grind (arith, tests))
+
+inside : (xs : List ℕ) (b : ℕ) (ys : List ℕ) (line : Line) → after_all (Some line) (xs ++ b ∷ ys) ≡ Some Ended → (l : Line) × (next : Line) × (line_after l b ≡ Some next)
+unfolding after_all
+inside [] b ys line e = by (line_after line b) refl e
+  where
+    by : (o : Option Line) → line_after line b ≡ o → after_all o ys ≡ Some Ended → (l : Line) × (next : Line) × (line_after l b ≡ Some next)
+    by None q h = let none = after_all-None ys in cc
+    by (Some next) q h = (line, next, q)
+inside (x ∷ xs) b ys line e = by (line_after line x) (λ next h. inside xs b ys next h) e
+  where
+    by : (o : Option Line) → ((next : Line) → after_all (Some next) (xs ++ b ∷ ys) ≡ Some Ended → (l : Line) × (next : Line) × (line_after l b ≡ Some next)) → after_all o (xs ++ b ∷ ys) ≡ Some Ended → (l : Line) × (next : Line) × (line_after l b ≡ Some next)
+    by None more h = let none = after_all-None (xs ++ b ∷ ys) in cc
+    by (Some next) more h = more next h
+
+pub plain_is_lexical : (bytes : List ℕ) (from : ℕ) → is_plain (drop from bytes) ≡ true → (scan_of bytes from).bad ≡ None
+unfolding is_plain
+plain_is_lexical bytes from plain =
+    let cut = scans_cut_the_text bytes from in
+    let test = both_pass (nat_le (length (drop from bytes)) 67108864) (ends (after_all (Some Ended) (drop from bytes))) plain in
+    by _ (bytes_of cut.stretches) cut.rest cut.all_bytes cut.ending (all_ended (after_all (Some Ended) (drop from bytes)) test.1)
+  where
+    by : (at : ℕ) (xs rest : List ℕ) → drop from bytes ≡ xs ++ rest → IsEnding at rest (scan_of bytes from).bad → after_all (Some Ended) (drop from bytes) ≡ Some Ended → (scan_of bytes from).bad ≡ None
+    by at xs [] whole ending e = ending
+    by at xs (b ∷ bs) whole ending e =
+        let here = inside xs b bs Ended (sym (ap (after_all (Some Ended)) whole) ∙ e) in
+        absurd (stands here.0 here.1 b here.2 ending.1.no_blank ending.1.not_printable ending.1.no_line_feed)
+
+pub no_word_is_last : (bytes : List ℕ) (from : ℕ) (front : List Token) (t : Token) → is_plain (drop from bytes) ≡ true → (scan_of bytes from).tokens ≡ front ++ t ∷ [] → t.symbol ≡ Word → ⊥
+unfolding is_plain
+no_word_is_last bytes from front t plain tokens word =
+    let lexical = plain_is_lexical bytes from plain in
+    let cut = scans_cut_the_text bytes from in
+    let none = nothing_behind _ cut.rest (scan_of bytes from).bad cut.ending lexical in
+    let whole : drop from bytes ≡ bytes_of cut.stretches = cut.all_bytes ∙ ap (λ (rest : List ℕ). bytes_of cut.stretches ++ rest) none ∙ append-nil (bytes_of cut.stretches) in
+    let found = sym cut.tokens ∙ tokens in
+    let head = first_token front t in
+    let some = some_bytes true cut.stretches cut.rest from head.0 head.1 cut.each (found ∙ head.2) in
+    let test = both_pass (nat_le (length (drop from bytes)) 67108864) (ends (after_all (Some Ended) (drop from bytes))) plain in
+    by (plain_last (drop from bytes) Ended (all_ended (after_all (Some Ended) (drop from bytes)) test.1)) whole some.0 some.1 some.2 (no_word_last true cut.stretches cut.rest from front t cut.each found word)
+  where
+    by : {xs : List ℕ} → (drop from bytes ≡ []) ⊎ LastEnds (drop from bytes) → drop from bytes ≡ xs → (c : ℕ) (cs : List ℕ) → xs ≡ c ∷ cs → (LastEnds xs → ⊥) → ⊥
+    by (inl none) whole c cs some never = let empty = sym none ∙ whole ∙ some in cc
+    by (inr last) whole c cs some never = never (subst LastEnds whole last)

@@ -1,0 +1,219 @@
+-- What is read as `let` lines is spelled so. Main lemma `Goes-let_lines`.
+use Rattle.std.proofs.Common.{◌≡◌, ℕ, zero, suc, ◌≤◌, Bool, true, false, cond, List, [], ◌∷◌, ◌++◌, length, Option, Some, None, Ok, refl, sym, ap, ◌∙◌, subst, arith, codes}
+use Rattle.std.specs.List.{position}
+use Rattle.std.specs.Str.{bytes_eq}
+use Rattle.std.proofs.lemmas.List.{append_assoc, append-nil}
+use Rattle.ct_token.specs.declared.token.Symbol.{Symbol}
+use Rattle.ct_token.specs.declared.token.Symbol.TheVariants as symbol
+use Rattle.ct_ore.specs.Naming.{Naming}
+use Rattle.ct_problem.specs.declared.expr.Expr.{Expr}
+use Rattle.ct_problem.specs.declared.fault.BadKind.TheVariants.{TooMany}
+use Rattle.ct_problem.specs.declared.problem.LetForm.{LetForm}
+use Rattle.ct_problem.specs.declared.problem.LetForm.TheVariants as form
+use Rattle.ct_problem.specs.declared.reading.let_lines.LetWord.{LetWord}
+use Rattle.ct_problem.specs.declared.reading.let_lines.LetWord.TheVariants.{Gens, Plus, Product, Apply}
+use Rattle.ct_problem.specs.declared.reading.names.Known.{Known}
+use Rattle.ct_problem.specs.declared.reading.names.Known.TheVariants.{Variable, Let, Unknown}
+use Rattle.ct_problem.specs.Input.{Input, ◌>>=◌, ◌>>◌, pure, skip, next, peek, eat, eat_word, expect, line_end, spelling, sees_word}
+use Rattle.ct_problem.specs.Input as input
+use Rattle.ct_problem.specs.Declarations.{new_name}
+use Rattle.ct_problem.specs.Expressions.{expression}
+use Rattle.ct_problem.specs.LetLines.{Definition, with_definitions, begins_expression, list_by, list_word, list_name, one_too_many, listed_from, two_lists, applied, form_by, let_word, form_of_word, let_form, definition, let_lines, let_lines_from}
+use Rattle.ct_problem.specs.Lexemes.{Lexeme, Word, Sign, LineEnd, Texts, nothing, one, optional, ◌▸◌, each}
+use Rattle.ct_problem.specs.Grammar.{IsExpression}
+use Rattle.ct_problem.specs.GrammarLets as lets
+use Rattle.ct_problem.specs.GrammarLets.{IsList}
+use Rattle.ct_problem.specs.Names.{Names, is_named, known, known_by}
+use Rattle.ct_problem.specs.Number.{unless}
+use Rattle.ct_problem.proofs.JoinedTexts.{replaced, nothing_joined, joined_to_left, joined_to_right}
+use Rattle.ct_problem.proofs.LexemeSteps.{shown, sees_word-shown, shown-symbol}
+use Rattle.ct_problem.proofs.Spelling.{Spelled, Spells, Continues, Spells-bind, Spells-eat_word, Spells-expect, Spells-eat, Continues-pure, Continues-bind, Continues-last, taken, after_taken, moved, shows_word-gives}
+use Rattle.ct_problem.proofs.SpelledExpressions.{Spells-expression}
+use Rattle.ct_problem.proofs.SpelledLines.{Goes-past_test}
+use Rattle.ct_problem.proofs.SpelledNames.{Spells-new_name}
+use Rattle.ct_problem.proofs.SpelledRuns.{Goes, Goes-pure, Goes-as, Goes-bind, Goes-whole, Goes-begin, Goes-then, Goes-line_end}
+
+-- ---- lists by their names
+
+let_known : (letters : List ℕ) (names : Names) (at : ℕ) → known letters names ≡ Let at → IsList names letters at
+unfolding known
+let_known letters names at e = by (position (is_named letters) names.variables) (position (bytes_eq letters) names.lets) refl refl e
+  where
+    by : (o p : Option ℕ) → position (is_named letters) names.variables ≡ o → position (bytes_eq letters) names.lets ≡ p → known_by o p ≡ Let at → IsList names letters at
+    by (Some v) p a b h = cc
+    by None None a b h = cc
+    by None (Some n) a b h = let same : n ≡ at = cc in record { no_variable = a; first = b ∙ ap (λ (m : ℕ). let q : Option ℕ = Some m in q) same }
+
+module _ (names : Names) where
+  list_is : (i j : Input) (at : ℕ) → input.symbol i ≡ Some symbol.Word → (k : Known) → known (spelling i) names ≡ k → list_by names k i ≡ Ok (at, j) → Spelled (lets.list names at) i j
+  list_is i j at word (Let n) e h =
+      let s = taken (Word (spelling i)) i (shown-symbol i symbol.Word word) in
+      moved (lets.list names) i n at (next i) j h (record { used = s.used; parts = s.parts; spells = record { letters = spelling i; named = let_known (spelling i) names n e; spelled = s.spells }; follows = s.follows })
+  list_is i j at word (Variable n) e h = cc
+  list_is i j at word Unknown e h = cc
+
+  list_at : (i j : Input) (at : ℕ) (o : Option Symbol) → input.symbol i ≡ o → list_word names o i ≡ Ok (at, j) → Spelled (lets.list names at) i j
+  list_at i j at (Some symbol.Word) e h = list_is i j at e (known (spelling i) names) refl h
+  list_at i j at (Some symbol.Number) e h = cc
+  list_at i j at (Some (symbol.Sign s)) e h = cc
+  list_at i j at (Some symbol.Dots) e h = cc
+  list_at i j at (Some symbol.LineEnd) e h = cc
+  list_at i j at None e h = cc
+
+  pub Spells-list_name : Spells (list_name names) (lets.list names)
+  unfolding list_name
+  Spells-list_name i j at e = list_at i j at (input.symbol i) refl e
+
+  -- ---- forms
+
+  -- expressions after those that were found before, at least one
+  record MoreListed (room : ℕ) (found xs : List Expr) (ls : List Lexeme) : Type 0 where
+    first : Expr
+    more : List Expr
+    value : xs ≡ found ++ first ∷ more
+    few : suc (length more) ≤ room
+    spelled : (IsExpression names true first ▸ each (lets.more_listed names) more) ls
+
+  none_listed : (found : List Expr) → Spells one_too_many (MoreListed 0 found)
+  unfolding one_too_many
+  none_listed found i j x e = by (begins_expression (input.symbol i)) e
+    where
+      by : (b : Bool) → (unless b TooMany >> input.syntax) i ≡ Ok (x, j) → Spelled (MoreListed 0 found x) i j
+      by true h = cc
+      by false h = cc
+
+  one_listed : (n : ℕ) (found : List Expr) → ((x : Expr) → Spells (listed_from names n (found ++ x ∷ [])) (MoreListed n (found ++ x ∷ []))) → (x : Expr) (more : Bool)
+      → Continues (IsExpression names true x ▸ optional (Sign 59) more) (cond more (listed_from names n (found ++ x ∷ [])) (pure (found ++ x ∷ []))) (MoreListed (suc n) found)
+  one_listed n found others x true = Continues-last (MoreListed (suc n) found) (MoreListed n (found ++ x ∷ [])) (listed_from names n (found ++ x ∷ [])) (others x) (λ xs ls h.
+      let small = h.second.few in
+      let again : (IsExpression names true x ▸ (one (Sign 59) ▸ IsExpression names true h.second.first ▸ each (lets.more_listed names) h.second.more)) ls =
+      joined_to_right_twice (replaced h h.second.spelled) in
+      record {
+        first = x;
+        more = h.second.first ∷ h.second.more;
+        value = h.second.value ∙ append_assoc found (x ∷ []) (h.second.first ∷ h.second.more);
+        few = omega (arith, small);
+        spelled = again;
+      })
+    where
+      joined_to_right_twice : {a b c d : Texts} {ls : List Lexeme} → (a ▸ b ▸ (c ▸ d)) ls → (a ▸ (b ▸ c ▸ d)) ls
+      joined_to_right_twice h = let k = joined_to_right h in record { front = k.front; back = k.back; parts = k.parts; first = k.first; second = joined_to_left k.second }
+  one_listed n found others x false = Continues-pure (MoreListed (suc n) found) (found ++ x ∷ []) (λ ls h. record { first = x; more = []; value = refl; few = omega arith; spelled = h })
+
+  Spells-listed_from : (n : ℕ) (found : List Expr) → Spells (listed_from names n found) (MoreListed n found)
+  unfolding listed_from
+  Spells-listed_from zero found = none_listed found
+  Spells-listed_from (suc n) found =
+      Spells-bind (IsExpression names true) (MoreListed (suc n) found) (expression names true) _ (Spells-expression names true) (λ x.
+      Continues-bind (optional (Sign 59)) (MoreListed (suc n) found) (eat 59) (λ more. cond more (listed_from names n (found ++ x ∷ [])) (pure (found ++ x ∷ []))) (Spells-eat 59) (λ more.
+      one_listed n found (λ y. Spells-listed_from n (found ++ y ∷ [])) x more))
+
+  Lists : ℕ × ℕ → Texts
+  Lists p = lets.list names p.0 ▸ lets.list names p.1
+
+  Spells-two_lists : Spells (two_lists names) Lists
+  unfolding two_lists Lists
+  Spells-two_lists =
+      Spells-bind (lets.list names) Lists (list_name names) _ Spells-list_name (λ a.
+      Continues-bind (lets.list names) Lists (list_name names) (λ b. pure (a, b)) Spells-list_name (λ b.
+      Continues-pure Lists (a, b) (λ ls h. h)))
+
+  -- what stands behind the word
+  word_of : LetWord → List ℕ
+  word_of Gens = codes "gens"
+  word_of Plus = codes "plus"
+  word_of Product = codes "product"
+  word_of Apply = codes "apply"
+
+  Form : LetForm → Texts
+  Form f = lets.let_form names f
+
+  listed_is : (xs : List Expr) (ls : List Lexeme) → (one (Word (codes "gens")) ▸ MoreListed 16 [] xs) ls → Form (form.Gens xs) ls
+  unfolding Form
+  listed_is xs ls h =
+      let same = h.second.value in
+      let few = h.second.few in
+      (subst (λ (ys : List Expr). length ys ≤ 16) (sym same) few, replaced h (subst (λ (ys : List Expr). lets.listed names ys h.back) (sym same) h.second.spelled))
+
+  after_word : (word : LetWord) → Continues (one (Word (word_of word))) (form_by names word) Form
+  unfolding word_of Form Lists applied
+  after_word Gens = Continues-bind (MoreListed 16 []) Form (listed_from names 16 []) (λ xs. pure (form.Gens xs)) (Spells-listed_from 16 []) (λ xs. Continues-pure Form (form.Gens xs) (listed_is xs))
+  after_word Plus = Continues-bind Lists Form (two_lists names) (λ p. pure (form.Plus p.0 p.1)) Spells-two_lists (λ p. Continues-pure Form (form.Plus p.0 p.1) (λ ls h. joined_to_left h))
+  after_word Product = Continues-bind Lists Form (two_lists names) (λ p. pure (form.Product p.0 p.1)) Spells-two_lists (λ p. Continues-pure Form (form.Product p.0 p.1) (λ ls h. joined_to_left h))
+  after_word Apply =
+      Continues-bind (lets.list names) Form (list_name names) _ Spells-list_name (λ at.
+      Continues-bind (λ (_ : Unit {0}). one (Sign 58)) Form (expect 58) _ (Spells-expect 58) (λ _.
+      Continues-bind (IsExpression names true) Form (expression names true) (λ x. pure (form.Apply at x)) (Spells-expression names true) (λ x.
+      Continues-pure Form (form.Apply at x) (λ ls h. h))))
+
+  begins_with : (i : Input) (word : LetWord) → let_word i ≡ Some word → sees_word (word_of word) i ≡ true
+  unfolding let_word word_of
+  begins_with i word h = by (sees_word (codes "gens") i) refl (sees_word (codes "plus") i) refl (sees_word (codes "product") i) refl (sees_word (codes "apply") i) refl word h
+    where
+      by : (g : Bool) → sees_word (codes "gens") i ≡ g → (p : Bool) → sees_word (codes "plus") i ≡ p → (t : Bool) → sees_word (codes "product") i ≡ t → (a : Bool) → sees_word (codes "apply") i ≡ a → (word : LetWord)
+          → ◌≡◌ {A = Option LetWord} (cond g (Some Gens) (cond p (Some Plus) (cond t (Some Product) (cond a (Some Apply) None)))) (Some word) → sees_word (word_of word) i ≡ true
+      by true eg p ep t et a ea word h = let same : Gens ≡ word = cc in subst (λ (w : LetWord). sees_word (word_of w) i ≡ true) same eg
+      by false eg true ep t et a ea word h = let same : Plus ≡ word = cc in subst (λ (w : LetWord). sees_word (word_of w) i ≡ true) same ep
+      by false eg false ep true et a ea word h = let same : Product ≡ word = cc in subst (λ (w : LetWord). sees_word (word_of w) i ≡ true) same et
+      by false eg false ep false et true ea word h = let same : Apply ≡ word = cc in subst (λ (w : LetWord). sees_word (word_of w) i ≡ true) same ea
+      by false eg false ep false et false ea word h = cc
+
+  Spells-let_form : Spells (let_form names) Form
+  unfolding let_form
+  Spells-let_form i j f e = by (let_word i) refl e
+    where
+      by : (o : Option LetWord) → let_word i ≡ o → form_of_word names o i ≡ Ok (f, j) → Spelled (Form f) i j
+      by None s h = cc
+      by (Some word) s h =
+          let key = word_of word in
+          let head = shows_word-gives key (shown i) (sym (sees_word-shown key i) ∙ begins_with i word s) in
+          after_taken (Word key) (Form f) i j head (after_word word (next i) j f (Word key ∷ []) refl h)
+
+  pub Goes-definition : Goes (one (Word (codes "let"))) (definition names) (lets.let_line names)
+  unfolding definition Form
+  Goes-definition =
+      Goes-then (one (Word (codes "let"))) (lets.declared names) (lets.let_line names) (new_name names) _ (Spells-new_name names) (λ text.
+      Goes-then (one (Word (codes "let")) ▸ lets.declared names text) (λ (_ : Unit {0}). one (Sign 61)) (lets.let_line names) (expect 61) _ (Spells-expect 61) (λ _.
+      Goes-then (one (Word (codes "let")) ▸ lets.declared names text ▸ one (Sign 61)) Form (lets.let_line names) (let_form names) _ Spells-let_form (λ f.
+      Goes-bind (one (Word (codes "let")) ▸ lets.declared names text ▸ one (Sign 61) ▸ Form f) (λ (_ : Unit {0}). one LineEnd) (lets.let_line names) line_end (λ _. pure (record { text = text; form = f })) Goes-line_end (λ _.
+      Goes-pure (one (Word (codes "let")) ▸ lets.declared names text ▸ one (Sign 61) ▸ Form f ▸ one LineEnd) (lets.let_line names) (record { text = text; form = f }) (λ ls h. h)))))
+
+-- ---- lines
+
+module _ (variables : List Naming) where
+  -- definitions after those that were found before
+  record MoreLets (room : ℕ) (found ds : List Definition) (ls : List Lexeme) : Type 0 where
+    more : List Definition
+    value : ds ≡ found ++ more
+    few : length more ≤ room
+    spelled : lets.let_lines_behind variables found more ls
+
+  no_let : (room : ℕ) (found : List Definition) (ls : List Lexeme) → nothing ls → MoreLets room found found ls
+  no_let room found ls none = record { more = []; value = sym (append-nil found); few = omega arith; spelled = none }
+
+  one_let : (n : ℕ) (found : List Definition) → ((d : Definition) → Goes nothing (let_lines_from variables n (found ++ d ∷ [])) (MoreLets n (found ++ d ∷ []))) → (more : Bool)
+      → Goes (optional (Word (codes "let")) more) (cond more (definition (with_definitions variables found) >>= (λ d. let_lines_from variables n (found ++ d ∷ []))) (pure found)) (MoreLets (suc n) found)
+  one_let n found others true =
+      Goes-whole (one (Word (codes "let"))) (lets.let_line (with_definitions variables found)) (MoreLets (suc n) found) (definition (with_definitions variables found)) (λ d. let_lines_from variables n (found ++ d ∷ [])) (Goes-definition (with_definitions variables found)) (λ d.
+      Goes-as (lets.let_line (with_definitions variables found) d) (MoreLets (suc n) found) (MoreLets n (found ++ d ∷ [])) (let_lines_from variables n (found ++ d ∷ [])) (others d) (λ es ls h.
+      let small = h.second.few in
+      record {
+        more = d ∷ h.second.more;
+        value = h.second.value ∙ append_assoc found (d ∷ []) h.second.more;
+        few = omega (arith, small);
+        spelled = replaced h h.second.spelled;
+      }))
+  one_let n found others false = Goes-pure nothing (MoreLets (suc n) found) found (no_let (suc n) found)
+
+  Goes-lines : (n : ℕ) (found : List Definition) → Goes nothing (let_lines_from variables n found) (MoreLets n found)
+  unfolding let_lines_from
+  Goes-lines zero found = Goes-past_test nothing (MoreLets 0 found) (codes "let") (pure found) (Goes-pure (nothing ▸ nothing) (MoreLets 0 found) found (λ ls h. no_let 0 found ls (nothing_joined h)))
+  Goes-lines (suc n) found = Goes-begin nothing (optional (Word (codes "let"))) (MoreLets (suc n) found) (eat_word (codes "let")) _ (Spells-eat_word (codes "let")) (one_let n found (λ d. Goes-lines n (found ++ d ∷ [])))
+
+  pub Goes-let_lines : Goes nothing (let_lines variables) (lets.let_lines variables)
+  unfolding let_lines
+  Goes-let_lines =
+      Goes-as nothing (lets.let_lines variables) (MoreLets 8 []) (let_lines_from variables 8 []) (Goes-lines 8 []) (λ ds ls h.
+      let m = nothing_joined h in
+      let same = m.value in
+      (subst (λ (es : List Definition). length es ≤ 8) (sym same) m.few, subst (λ (es : List Definition). lets.let_lines_behind variables [] es ls) (sym same) m.spelled))

@@ -1,0 +1,129 @@
+-- What is read as the lines of a problem before the last one is spelled so. Main lemmas `Goes-head` and `Goes-body`.
+use Rattle.std.proofs.Common.{ℕ, ◌≤◌, Bool, true, false, cond, List, [], ◌∷◌, nat_lt, Option, Some, None, codes, ltb-false}
+use Rattle.ct_ore.specs.Naming.{Naming}
+use Rattle.ct_problem.specs.declared.expr.Expr.{Expr}
+use Rattle.ct_problem.specs.declared.fault.BadKind.TheVariants.{OutOfRange, EmptyRange}
+use Rattle.ct_problem.specs.declared.problem.Gens.{Gens}
+use Rattle.ct_problem.specs.declared.problem.Gens.TheVariants.{Listed, Named}
+use Rattle.ct_problem.specs.declared.problem.Range.{Range}
+use Rattle.ct_problem.specs.Input.{◌>>=◌, ◌>>◌, pure, skip, next, eat_word, line_end, dots, fresh_line}
+use Rattle.ct_problem.specs.Declarations.{declarations}
+use Rattle.ct_problem.specs.DenLines.{den_lines}
+use Rattle.ct_problem.specs.GrammarLets as lets
+use Rattle.ct_problem.specs.GrammarProblem as grammar
+use Rattle.ct_problem.specs.GrammarProblem.{AreFew, Says, IsEnd, MayFollow, StandsFor}
+use Rattle.ct_problem.specs.LetLines.{Definition, with_definitions, let_lines, list_name}
+use Rattle.ct_problem.specs.Lexemes.{Lexeme, Word, Dots, LineEnd, Texts, nothing, one, optional, number, ◌▸◌}
+use Rattle.ct_problem.specs.Lines.{no_more, value_lines}
+use Rattle.ct_problem.specs.Lines as read
+use Rattle.ct_problem.specs.Names.{Names}
+use Rattle.ct_problem.specs.Number.{coming_number, unless}
+use Rattle.ct_problem.specs.Number as digits
+use Rattle.ct_problem.specs.ProblemLines.{used, listed_or_used, generators, high_number, range, range_line}
+use Rattle.ct_problem.specs.ReadProblem.{head, body}
+use Rattle.ct_problem.proofs.JoinedTexts.{joined_nothing, replaced, nothing_joined}
+use Rattle.ct_problem.proofs.Spelling.{Spells, Spells-bind, Spells-eat_word, Continues-pure, Continues-bind, moved}
+use Rattle.ct_problem.proofs.SpelledDens.{Goes-den_lines}
+use Rattle.ct_problem.proofs.SpelledLets.{Spells-list_name, Goes-let_lines}
+use Rattle.ct_problem.proofs.SpelledLines.{Goes-header, Goes-past_test, Goes-value_lines}
+use Rattle.ct_problem.proofs.SpelledNames.{Goes-declarations}
+use Rattle.ct_problem.proofs.SpelledRuns.{Goes, Goes-pure, Goes-bind, Goes-first, Goes-begin, Goes-then, Goes-line_end, Goes-fresh_line}
+use Rattle.ct_problem.proofs.SpelledSteps.{test_failed, Coming-taken, Spells-coming, Spells-dots, Spells-number}
+
+-- ---- generators
+
+module _ (names : Names) where
+  These : Gens → Texts
+  These g = grammar.generators names g
+
+  Goes-used : Goes (one (Word (codes "use"))) (used names) These
+  unfolding used These
+  Goes-used =
+      Goes-then (one (Word (codes "use"))) (lets.list names) These (list_name names) _ (Spells-list_name names) (λ at.
+      Goes-bind (one (Word (codes "use")) ▸ lets.list names at) (λ (_ : Unit {0}). one LineEnd) These line_end (λ _. no_more (codes "use") >> pure (Named at)) Goes-line_end (λ _.
+      Goes-past_test (one (Word (codes "use")) ▸ lets.list names at ▸ one LineEnd) These (codes "use") (pure (Named at)) (Goes-pure (one (Word (codes "use")) ▸ lets.list names at ▸ one LineEnd ▸ nothing) These (Named at) (λ ls h. joined_nothing h))))
+
+  listed_or : (xs : List Expr) → Goes (grammar.values names (codes "gen") xs) (listed_or_used names xs) These
+  unfolding These
+  listed_or [] =
+      Goes-then (grammar.values names (codes "gen") []) (optional (Word (codes "use"))) These (eat_word (codes "use")) (λ is_used. cond is_used (used names) (pure (Listed []))) (Spells-eat_word (codes "use")) by
+    where
+      by : (b : Bool) → Goes (grammar.values names (codes "gen") [] ▸ optional (Word (codes "use")) b) (cond b (used names) (pure (Listed []))) These
+      by true i j g e =
+          let r = Goes-used i j g e in
+          record { follows = r.follows; spelled = λ before d left. r.spelled before (alone before d) left }
+        where
+          alone : (ls : List Lexeme) → (grammar.values names (codes "gen") [] ▸ one (Word (codes "use"))) ls → one (Word (codes "use")) ls
+          alone ls h = nothing_joined {a = one (Word (codes "use"))} (record { front = h.front; back = h.back; parts = h.parts; first = h.first.1; second = h.second })
+      by false i j g e = Goes-pure (grammar.values names (codes "gen") [] ▸ nothing) These (Listed []) (λ ls h. joined_nothing h) i j g e
+  listed_or (x ∷ xs) = Goes-pure (grammar.values names (codes "gen") (x ∷ xs)) These (Listed (x ∷ xs)) (λ ls h. h)
+
+  pub Goes-generators : Goes nothing (generators names) (grammar.generators names)
+  unfolding generators These
+  Goes-generators = Goes-first nothing (grammar.values names (codes "gen")) These (value_lines names (codes "gen")) (listed_or_used names) (Goes-value_lines names (codes "gen")) listed_or
+
+-- ---- ranges
+
+-- the second number of a range
+High : ℕ → ℕ → ℕ → Texts
+High limit low n ls = (low ≤ n) × number limit n ls
+
+Spells-high : (limit low : ℕ) → Spells (high_number limit low) (High limit low)
+unfolding high_number High
+Spells-high limit low = Spells-coming (High limit low) (λ n. unless (nat_lt limit n) OutOfRange >> (unless (nat_lt n low) EmptyRange >> (skip >> pure n))) (λ n i j x c e.
+    let t = test_failed (nat_lt limit n) OutOfRange (unless (nat_lt n low) EmptyRange >> (skip >> pure n)) i j x e in
+    let u = test_failed (nat_lt n low) EmptyRange (skip >> pure n) i j x t.1 in
+    let s = Coming-taken i n limit c (ltb-false limit n t.0) in
+    moved (High limit low) i n x (next i) j u.1 (record { used = s.used; parts = s.parts; spells = (ltb-false n low u.0, s.spells); follows = s.follows }))
+
+Spells-range : (limit : ℕ) → Spells (range limit) (grammar.range limit)
+unfolding range High
+Spells-range limit =
+    Spells-bind (number limit) (grammar.range limit) (digits.number limit OutOfRange) _ (Spells-number limit OutOfRange) (λ low.
+    Continues-bind (λ (_ : Unit {0}). one Dots) (grammar.range limit) dots _ Spells-dots (λ _.
+    Continues-bind (High limit low) (grammar.range limit) (high_number limit low) (λ high. pure (record { low = low; high = high })) (Spells-high limit low) (λ high.
+    Continues-pure (grammar.range limit) (record { low = low; high = high }) (λ ls h. record { rising = h.second.0; spelled = replaced h h.second.1 }))))
+
+pub Goes-range_line : (key : List ℕ) (limit : ℕ) → Goes nothing (range_line key limit) (grammar.range_line key limit)
+unfolding range_line
+Goes-range_line key limit =
+    Goes-begin nothing (optional (Word key)) L (eat_word key) (λ is_there. cond is_there (range limit >>= (λ r. line_end >> (no_more key >> pure (Some r)))) (pure None)) (Spells-eat_word key) by
+  where
+    L : Option Range → Texts
+    L = grammar.range_line key limit
+
+    by : (b : Bool) → Goes (optional (Word key) b) (cond b (range limit >>= (λ r. line_end >> (no_more key >> pure (Some r)))) (pure None)) L
+    by true =
+        Goes-then (one (Word key)) (grammar.range limit) L (range limit) (λ r. line_end >> (no_more key >> pure (Some r))) (Spells-range limit) (λ r.
+        Goes-bind (one (Word key) ▸ grammar.range limit r) (λ (_ : Unit {0}). one LineEnd) L line_end (λ _. no_more key >> pure (Some r)) Goes-line_end (λ _.
+        Goes-past_test (one (Word key) ▸ grammar.range limit r ▸ one LineEnd) L key (pure (Some r)) (Goes-pure (one (Word key) ▸ grammar.range limit r ▸ one LineEnd ▸ nothing) L (Some r) (λ ls h. joined_nothing h))))
+    by false = Goes-pure nothing L None (λ ls h. h)
+
+-- ---- the lines before the last one
+
+pub Head : List Naming × List Definition → Texts
+Head h = grammar.header (codes "problem") ▸ grammar.name_lines [] h.0 ▸ lets.let_lines h.0 h.1
+
+pub Goes-head : Goes nothing head Head
+unfolding head Head
+Goes-head =
+    Goes-first nothing (λ (_ : Unit {0}). nothing) Head fresh_line _ Goes-fresh_line (λ _.
+    Goes-first nothing (λ (_ : Unit {0}). grammar.header (codes "problem")) Head (read.header (codes "problem")) _ (Goes-header (codes "problem")) (λ _.
+    Goes-bind (grammar.header (codes "problem")) (grammar.name_lines []) Head declarations _ Goes-declarations (λ variables.
+    Goes-bind (grammar.header (codes "problem") ▸ grammar.name_lines [] variables) (lets.let_lines variables) Head (let_lines variables) (λ definitions. pure (variables, definitions)) (Goes-let_lines variables) (λ definitions.
+    Goes-pure (Head (variables, definitions)) Head (variables, definitions) (λ ls h. h)))))
+
+pub Goes-body : (h : List Naming × List Definition) → Goes (Head h) (body h.0 h.1) grammar.lines
+unfolding body Head
+Goes-body h =
+    Goes-bind (Head h) (grammar.generators names) grammar.lines (generators names) _ (Goes-generators names) (λ gens.
+    Goes-bind (Head h ▸ grammar.generators names gens) (grammar.den_lines names) grammar.lines (den_lines names) _ (Goes-den_lines names) (λ dens.
+    Goes-bind (Head h ▸ grammar.generators names gens ▸ grammar.den_lines names dens) (grammar.values names (codes "target")) grammar.lines (value_lines names (codes "target")) _ (Goes-value_lines names (codes "target")) (λ targets.
+    Goes-bind (Head h ▸ grammar.generators names gens ▸ grammar.den_lines names dens ▸ grammar.values names (codes "target") targets) (grammar.range_line (codes "order") 8) grammar.lines (range_line (codes "order") 8) _ (Goes-range_line (codes "order") 8) (λ orders.
+    Goes-bind (Head h ▸ grammar.generators names gens ▸ grammar.den_lines names dens ▸ grammar.values names (codes "target") targets ▸ grammar.range_line (codes "order") 8 orders) (grammar.range_line (codes "degree") 12) grammar.lines (range_line (codes "degree") 12)
+    (λ degrees. pure (record { variables = h.0; definitions = h.1; generators = gens; dens = dens; targets = targets; orders = orders; degrees = degrees })) (Goes-range_line (codes "degree") 12) (λ degrees.
+    Goes-pure (Head h ▸ grammar.generators names gens ▸ grammar.den_lines names dens ▸ grammar.values names (codes "target") targets ▸ grammar.range_line (codes "order") 8 orders ▸ grammar.range_line (codes "degree") 12 degrees) grammar.lines
+    (record { variables = h.0; definitions = h.1; generators = gens; dens = dens; targets = targets; orders = orders; degrees = degrees }) (λ ls k. k))))))
+  where
+    names : Names
+    names = with_definitions h.0 h.1

@@ -1,0 +1,140 @@
+-- Lexemes that stand for the lines of a problem before the last one are read as what they say. Main lemma `Takes-all_lines`.
+use Rattle.std.proofs.Common.{ℕ, List, [], Option, refl, arith, codes}
+use Rattle.ct_ore.specs.Naming.{Naming}
+use Rattle.ct_problem.specs.declared.expr.Expr.{Expr}
+use Rattle.ct_problem.specs.declared.problem.Gens.{Gens}
+use Rattle.ct_problem.specs.declared.problem.Range.{Range}
+use Rattle.ct_problem.specs.Declarations.{declarations}
+use Rattle.ct_problem.specs.DenLines.{Dens, den_lines}
+use Rattle.ct_problem.specs.GrammarLets as lets
+use Rattle.ct_problem.specs.GrammarProblem as grammar
+use Rattle.ct_problem.specs.GrammarProblem.{AreFew}
+use Rattle.ct_problem.specs.Input.{Parser, ◌>>=◌, ◌>>◌, pure, fresh_line}
+use Rattle.ct_problem.specs.LetLines.{Definition, let_lines}
+use Rattle.ct_problem.specs.Lexemes.{Texts, nothing, ◌▸◌}
+use Rattle.ct_problem.specs.Lines.{value_lines}
+use Rattle.ct_problem.specs.Lines as read
+use Rattle.ct_problem.specs.Names.{Names}
+use Rattle.ct_problem.specs.ProblemLines.{generators, range_line}
+use Rattle.ct_problem.specs.ReadProblem.{Reading, head, body}
+use Rattle.ct_problem.proofs.LineStarts.{AfterLines, Leads, fresh_before, leads_join}
+use Rattle.ct_problem.proofs.LineStarts as starts
+use Rattle.ct_problem.proofs.TakenDens.{Takes-den_lines, leads_dens}
+use Rattle.ct_problem.proofs.TakenGenerators.{Takes-generators, leads_generators}
+use Rattle.ct_problem.proofs.TakenLets.{Takes-let_lines, leads_lets}
+use Rattle.ct_problem.proofs.TakenLines.{Takes-header}
+use Rattle.ct_problem.proofs.TakenNames.{Takes-declarations}
+use Rattle.ct_problem.proofs.TakenProblemLines.{Takes-range_line, leads_range}
+use Rattle.ct_problem.proofs.TakenSteps.{IsFresh, Takes-fresh_line}
+use Rattle.ct_problem.proofs.TakenValues.{Takes-values, leads_values}
+use Rattle.ct_problem.proofs.Taking.{Takes, Takes-as, Takes-to_right, Takes-bind, Takes-last}
+
+module _ (bad : Option ℕ) where
+  -- ---- the first line, the names and the `let` lines
+
+  Takes-head : (variables : List Naming) (definitions : List Definition) → AreFew variables
+      → Takes bad head (variables, definitions) (grammar.header (codes "problem") ▸ grammar.name_lines [] variables ▸ lets.let_lines variables definitions) (AfterLines bad 2)
+  unfolding head
+  Takes-head variables definitions few =
+      Takes-to_right bad Header Lines Lets (AfterLines bad 2) (fresh_line >> after_fresh) h
+      (Takes-as bad (nothing ▸ (Header ▸ (Lines ▸ Lets))) (Header ▸ (Lines ▸ Lets)) (AfterLines bad 2) (AfterLines bad 2) (fresh_line >> after_fresh) h (λ ls m. record { front = []; back = ls; parts = refl; first = refl; second = m }) (λ rest a. a)
+      (Takes-bind bad tt h nothing (Header ▸ (Lines ▸ Lets)) (IsFresh bad) (AfterLines bad 2) fresh_line (λ _. after_fresh) (Takes-fresh_line bad)
+      (Takes-bind bad tt h Header (Lines ▸ Lets) (IsFresh bad) (AfterLines bad 2) (read.header (codes "problem")) (λ _. after_header) (Takes-header bad (codes "problem"))
+      (Takes-bind bad variables h Lines Lets (AfterLines bad 1) (AfterLines bad 2) declarations after_names (Takes-declarations bad variables few)
+      (Takes-last bad definitions h Lets (AfterLines bad 2) (let_lines variables) (λ ds. pure (variables, ds)) (Takes-let_lines bad variables definitions) (λ k. refl))
+      (leads_lets bad variables definitions))
+      (λ back rest m a. fresh_before bad back rest a.fresh))
+      (λ back rest m a. fresh_before bad back rest a.fresh)))
+    where
+      h : List Naming × List Definition
+      h = (variables, definitions)
+
+      Header : Texts
+      Header = grammar.header (codes "problem")
+
+      Lines : Texts
+      Lines = grammar.name_lines [] variables
+
+      Lets : Texts
+      Lets = lets.let_lines variables definitions
+
+      after_names : List Naming → Parser (List Naming × List Definition)
+      after_names vs = let_lines vs >>= (λ ds. pure (vs, ds))
+
+      after_header : Parser (List Naming × List Definition)
+      after_header = declarations >>= after_names
+
+      after_fresh : Parser (List Naming × List Definition)
+      after_fresh = read.header (codes "problem") >> after_header
+
+  -- ---- the lines behind
+
+  module _ (p : Reading) where
+    abbrev names : Names
+    names = grammar.names_of p
+
+    abbrev Degrees : Texts
+    Degrees = grammar.range_line (codes "degree") 12 p.degrees
+
+    abbrev Orders : Texts
+    Orders = grammar.range_line (codes "order") 8 p.orders
+
+    abbrev Targets : Texts
+    Targets = grammar.values names (codes "target") p.targets
+
+    abbrev Denominators : Texts
+    Denominators = grammar.den_lines names p.dens
+
+    abbrev Generators : Texts
+    Generators = grammar.generators names p.generators
+
+    leads_degrees : Leads bad 7 8 Degrees
+    leads_degrees = leads_range bad starts.Degree 8 12 (omega arith) (omega arith) 7 p.degrees (omega arith) (omega arith)
+
+    leads_orders : Leads bad 6 8 (Orders ▸ Degrees)
+    leads_orders = leads_join bad 6 7 8 Orders Degrees (leads_range bad starts.Order 7 8 (omega arith) (omega arith) 6 p.orders (omega arith) (omega arith)) leads_degrees
+
+    leads_targets : Leads bad 5 8 (Targets ▸ (Orders ▸ Degrees))
+    leads_targets = leads_join bad 5 6 8 Targets (Orders ▸ Degrees) (λ back rest u a. leads_values bad names starts.Target 5 6 (omega arith) (omega arith) p.targets back rest u.1 a) leads_orders
+
+    leads_behind_generators : Leads bad 4 8 (Denominators ▸ (Targets ▸ (Orders ▸ Degrees)))
+    leads_behind_generators = leads_join bad 4 5 8 Denominators (Targets ▸ (Orders ▸ Degrees)) (leads_dens bad names p.dens) leads_targets
+
+    Takes-targets : Takes bad (value_lines names (codes "target")) p.targets Targets (AfterLines bad 6)
+    Takes-targets i used rest here e u after = Takes-values bad names starts.Target 6 (omega arith) p.targets u.0 i used rest here e u.1 after
+
+    Takes-body : Takes bad (body p.variables p.definitions) p (Generators ▸ (Denominators ▸ (Targets ▸ (Orders ▸ Degrees)))) (AfterLines bad 8)
+    unfolding body
+    Takes-body =
+        Takes-bind bad p.generators p Generators (Denominators ▸ (Targets ▸ (Orders ▸ Degrees))) (AfterLines bad 4) (AfterLines bad 8) (generators names) after_generators (Takes-generators bad names p.generators)
+        (Takes-bind bad p.dens p Denominators (Targets ▸ (Orders ▸ Degrees)) (AfterLines bad 5) (AfterLines bad 8) (den_lines names) (after_dens p.generators) (Takes-den_lines bad names p.dens)
+        (Takes-bind bad p.targets p Targets (Orders ▸ Degrees) (AfterLines bad 6) (AfterLines bad 8) (value_lines names (codes "target")) (after_targets p.generators p.dens) Takes-targets
+        (Takes-bind bad p.orders p Orders Degrees (AfterLines bad 7) (AfterLines bad 8) (range_line (codes "order") 8) (after_orders p.generators p.dens p.targets) (Takes-range_line bad starts.Order 7 8 (omega arith) (omega arith) p.orders)
+        (Takes-last bad p.degrees p Degrees (AfterLines bad 8) (range_line (codes "degree") 12) (after_degrees p.generators p.dens p.targets p.orders) (Takes-range_line bad starts.Degree 8 12 (omega arith) (omega arith) p.degrees) (λ k. refl))
+        leads_degrees) leads_orders) leads_targets) leads_behind_generators
+      where
+        after_degrees : Gens → Dens → List Expr → Option Range → Option Range → Parser Reading
+        after_degrees gens dens targets orders degrees = pure (record { variables = p.variables; definitions = p.definitions; generators = gens; dens = dens; targets = targets; orders = orders; degrees = degrees })
+
+        after_orders : Gens → Dens → List Expr → Option Range → Parser Reading
+        after_orders gens dens targets orders = range_line (codes "degree") 12 >>= after_degrees gens dens targets orders
+
+        after_targets : Gens → Dens → List Expr → Parser Reading
+        after_targets gens dens targets = range_line (codes "order") 8 >>= after_orders gens dens targets
+
+        after_dens : Gens → Dens → Parser Reading
+        after_dens gens dens = value_lines names (codes "target") >>= after_targets gens dens
+
+        after_generators : Gens → Parser Reading
+        after_generators gens = den_lines names >>= after_dens gens
+
+    pub Takes-all_lines : AreFew p.variables → Takes bad (head >>= (λ h. body h.0 h.1)) p (grammar.lines p) (AfterLines bad 8)
+    Takes-all_lines few =
+        Takes-to_right bad _ _ _ (AfterLines bad 8) all p (Takes-to_right bad _ _ _ (AfterLines bad 8) all p
+        (Takes-to_right bad _ _ _ (AfterLines bad 8) all p (Takes-to_right bad _ _ _ (AfterLines bad 8) all p
+        (Takes-bind bad (p.variables, p.definitions) p (grammar.header (codes "problem") ▸ grammar.name_lines [] p.variables ▸ lets.let_lines p.variables p.definitions) (Generators ▸ (Denominators ▸ (Targets ▸ (Orders ▸ Degrees)))) (AfterLines bad 2) (AfterLines bad 8)
+        head (λ h. body h.0 h.1) (Takes-head p.variables p.definitions few) Takes-body
+        (leads_join bad 2 4 8 Generators (Denominators ▸ (Targets ▸ (Orders ▸ Degrees))) (leads_generators bad names p.generators) leads_behind_generators)))))
+      where
+        all : Parser Reading
+        all = head >>= (λ h. body h.0 h.1)

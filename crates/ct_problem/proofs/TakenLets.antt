@@ -1,0 +1,201 @@
+-- Lexemes that stand for `let` lines are read as their definitions. Main lemma `Takes-let_lines`.
+use Rattle.std.proofs.Common.{◌≡◌, ℕ, zero, suc, ◌≤◌, Bool, true, false, cond, List, [], ◌∷◌, ◌++◌, length, Option, Some, None, refl, sym, ap, ◌∙◌, subst, arith, codes}
+use Rattle.std.specs.List.{position}
+use Rattle.std.specs.Str.{bytes_eq}
+use Rattle.std.proofs.lemmas.List.{append_assoc, append-nil}
+use Rattle.ct_token.specs.declared.token.Symbol.{Symbol}
+use Rattle.ct_ore.specs.Naming.{Naming}
+use Rattle.ct_problem.specs.declared.expr.Expr.{Expr}
+use Rattle.ct_problem.specs.declared.problem.LetForm.{LetForm}
+use Rattle.ct_problem.specs.declared.problem.LetForm.TheVariants as form
+use Rattle.ct_problem.specs.declared.reading.let_lines.LetWord.{LetWord}
+use Rattle.ct_problem.specs.declared.reading.let_lines.LetWord.TheVariants.{Gens, Plus, Product, Apply}
+use Rattle.ct_problem.specs.declared.reading.names.Known.{Known}
+use Rattle.ct_problem.specs.declared.reading.names.Known.TheVariants.{Let}
+use Rattle.ct_problem.specs.Input.{Input, Parser, ◌>>=◌, ◌>>◌, pure, skip, next, eat, eat_word, expect, line_end, sees_word}
+use Rattle.ct_problem.specs.Declarations.{new_name}
+use Rattle.ct_problem.specs.Expressions.{expression}
+use Rattle.ct_problem.specs.LetLines.{Definition, with_definitions, list_by, list_word, list_name, listed_from, two_lists, applied, form_by, let_word, form_of_word, let_form, definition, let_lines, let_lines_from}
+use Rattle.ct_problem.specs.Lines as read
+use Rattle.ct_problem.specs.Lexemes.{Lexeme, Word, Sign, LineEnd, Texts, nothing, one, ◌▸◌, each}
+use Rattle.ct_problem.specs.Grammar.{IsExpression}
+use Rattle.ct_problem.specs.GrammarLets as lets
+use Rattle.ct_problem.specs.GrammarLets.{IsList}
+use Rattle.ct_problem.specs.Names.{Names, known, known_by}
+use Rattle.ct_problem.proofs.JoinedTexts.{joined_to_right, on_first}
+use Rattle.ct_problem.proofs.LexemeSteps.{shown, shows_word, shows_sign, sees_word-shown}
+use Rattle.ct_problem.proofs.LexemeStarts.{AfterSum}
+use Rattle.ct_problem.proofs.LineStarts.{AfterLines, Leads, other_word, fresh_before, leads_nothing, leads_key}
+use Rattle.ct_problem.proofs.LineStarts as starts
+use Rattle.ct_problem.proofs.ShownSymbols.{shows_a_word, spelling-shown, next-shown}
+use Rattle.ct_problem.proofs.Following.{Follows-next}
+use Rattle.ct_problem.proofs.Taking.{Takes, anywhere, Takes-as, Takes-value, Takes-to_right, Takes-bind, Takes-then, Takes-next, Takes-last, Takes-eat, Takes-no_sign, Takes-skip, Takes-eat_word, Takes-no_word, Takes-expect, headed}
+use Rattle.ct_problem.proofs.TakenExpressions.{Takes-expression}
+use Rattle.ct_problem.proofs.TakenNames.{Takes-new_name}
+use Rattle.ct_problem.proofs.TakenSteps.{IsFresh, Takes-line_end}
+use Rattle.ct_problem.proofs.TakenValues.{Takes-past}
+
+list_known : (letters : List ℕ) (names : Names) (at : ℕ) → IsList names letters at → known letters names ≡ Let at
+unfolding known
+list_known letters names at l = ap (λ (o : Option ℕ). known_by o (position (bytes_eq letters) names.lets)) l.no_variable ∙ ap (λ (o : Option ℕ). known_by None o) l.first
+
+module _ (bad : Option ℕ) (names : Names) where
+  pub Takes-list_name : (at : ℕ) → Takes bad (list_name names) at (lets.list names at) anywhere
+  unfolding list_name
+  Takes-list_name at i used rest here e u after =
+      let head = headed bad i used rest (Word u.letters) e u.spelled in
+      let name = ap (λ (v : List ℕ). known v names) (spelling-shown i rest u.letters head) ∙ list_known u.letters names at u.named in
+      record {
+        left = next i;
+        reads = ap (λ (o : Option Symbol). list_word names o i) (shows_a_word i rest u.letters head) ∙ ap (λ (k : Known). list_by names k i) name;
+        shows = next-shown i rest (Word u.letters) head;
+        follows = Follows-next i;
+      }
+
+  -- ---- forms
+
+  Listed : Expr → List Expr → Texts
+  Listed x xs = IsExpression names true x ▸ each (lets.more_listed names) xs
+
+  -- the end of a line comes
+  abbrev Ends : Texts
+  Ends rest = (back : List Lexeme) × (rest ≡ LineEnd ∷ back)
+
+  ends_sum : (rest : List Lexeme) → Ends rest → AfterSum rest
+  ends_sum rest h = subst AfterSum (sym h.1) (record { no_divisor = refl; no_power = refl; no_factor = refl; no_plus = refl; no_minus = refl })
+
+  abbrev next_by : ℕ → List Expr → Expr → Bool → Parser (List Expr)
+  next_by n found x more = cond more (listed_from names n (found ++ x ∷ [])) (pure (found ++ x ∷ []))
+
+  Takes-listed : (x : Expr) (more found : List Expr) (n : ℕ) → suc (length more) ≤ n → Takes bad (listed_from names n found) (found ++ x ∷ more) (IsExpression names true x ▸ each (lets.more_listed names) more) Ends
+  unfolding listed_from
+  Takes-listed x more found zero enough = let no : ⊥ = omega (arith, enough) in absurd no
+  Takes-listed x [] found (suc n) enough =
+      Takes-bind bad x (found ++ x ∷ []) (IsExpression names true x) nothing AfterSum Ends (expression names true) (λ y. eat 59 >>= next_by n found y) (Takes-expression bad names true x)
+      (Takes-as bad nothing nothing (λ rest. shows_sign 59 rest ≡ false) Ends (eat 59 >>= next_by n found x) (found ++ x ∷ []) (λ ls h. h) (λ rest a. ap (shows_sign 59) a.1)
+      (Takes-last bad false (found ++ x ∷ []) nothing (λ rest. shows_sign 59 rest ≡ false) (eat 59) (next_by n found x) (Takes-no_sign bad 59) (λ k. refl)))
+      (λ back rest none a. subst (λ (ls : List Lexeme). AfterSum (ls ++ rest)) (sym none) (ends_sum rest a))
+  Takes-listed x (y ∷ more) found (suc n) enough =
+      Takes-value bad (IsExpression names true x ▸ each (lets.more_listed names) (y ∷ more)) Ends (listed_from names (suc n) found) ((found ++ x ∷ []) ++ y ∷ more) (found ++ x ∷ y ∷ more) (append_assoc found (x ∷ []) (y ∷ more))
+      (Takes-bind bad x ((found ++ x ∷ []) ++ y ∷ more) (IsExpression names true x) (each (lets.more_listed names) (y ∷ more)) AfterSum Ends (expression names true) (λ z. eat 59 >>= next_by n found z) (Takes-expression bad names true x)
+      (Takes-to_right bad _ _ _ Ends (eat 59 >>= next_by n found x) ((found ++ x ∷ []) ++ y ∷ more)
+      (Takes-then bad true ((found ++ x ∷ []) ++ y ∷ more) (one (Sign 59)) (IsExpression names true y ▸ each (lets.more_listed names) more) Ends (eat 59) (next_by n found x) (Takes-eat bad 59)
+      (Takes-listed y more (found ++ x ∷ []) n (omega (arith, enough)))))
+      (λ back rest h a. semicolon back rest h))
+    where
+      semicolon : {b : Texts} (back rest : List Lexeme) → (one (Sign 59) ▸ IsExpression names true y ▸ b) back → AfterSum (back ++ rest)
+      semicolon back rest h =
+          let k = joined_to_right h in
+          subst AfterSum (sym (ap (λ ls. ls ++ rest) (k.parts ∙ ap (λ ls. ls ++ k.back) k.first))) (record { no_divisor = refl; no_power = refl; no_factor = refl; no_plus = refl; no_minus = refl })
+
+  Takes-two_lists : (a b : ℕ) → Takes bad (two_lists names) (a, b) (lets.list names a ▸ lets.list names b) anywhere
+  unfolding two_lists
+  Takes-two_lists a b =
+      Takes-then bad a (a, b) (lets.list names a) (lets.list names b) anywhere (list_name names) (λ x. list_name names >>= (λ y. pure (x, y))) (Takes-list_name a)
+      (Takes-last bad b (a, b) (lets.list names b) anywhere (list_name names) (λ y. pure (a, y)) (Takes-list_name b) (λ k. refl))
+
+  Takes-applied : (a : ℕ) (x : Expr) → Takes bad (applied names) (form.Apply a x) (lets.list names a ▸ (one (Sign 58) ▸ IsExpression names true x)) Ends
+  unfolding applied
+  Takes-applied a x =
+      Takes-then bad a (form.Apply a x) (lets.list names a) (one (Sign 58) ▸ IsExpression names true x) Ends (list_name names) (λ at. expect 58 >> (expression names true >>= (λ y. pure (form.Apply at y)))) (Takes-list_name a)
+      (Takes-next bad tt (form.Apply a x) (one (Sign 58)) (IsExpression names true x) Ends (expect 58) (expression names true >>= (λ y. pure (form.Apply a y))) (Takes-expect bad 58)
+      (Takes-as bad (IsExpression names true x) (IsExpression names true x) AfterSum Ends (expression names true >>= (λ y. pure (form.Apply a y))) (form.Apply a x) (λ ls h. h) ends_sum
+      (Takes-last bad x (form.Apply a x) (IsExpression names true x) AfterSum (expression names true) (λ y. pure (form.Apply a y)) (Takes-expression bad names true x) (λ k. refl))))
+
+  -- what stands behind each word
+  key_of : LetWord → List ℕ
+  key_of Gens = codes "gens"
+  key_of Plus = codes "plus"
+  key_of Product = codes "product"
+  key_of Apply = codes "apply"
+
+  let_with : (word : LetWord) (i : Input) (rest : List Lexeme) → shown i ≡ Word (key_of word) ∷ rest → let_word i ≡ Some word
+  unfolding let_word key_of
+  let_with word i rest head = by word (seen (codes "gens")) (seen (codes "plus")) (seen (codes "product")) (seen (codes "apply"))
+    where
+      seen : (w : List ℕ) → sees_word w i ≡ bytes_eq (key_of word) w
+      seen w = sees_word-shown w i ∙ ap (shows_word w) head
+
+      pick : (g p t a : Bool) → Option LetWord
+      pick g p t a = cond g (Some Gens) (cond p (Some Plus) (cond t (Some Product) (cond a (Some Apply) None)))
+
+      by : (v : LetWord) → sees_word (codes "gens") i ≡ bytes_eq (key_of v) (codes "gens") → sees_word (codes "plus") i ≡ bytes_eq (key_of v) (codes "plus") → sees_word (codes "product") i ≡ bytes_eq (key_of v) (codes "product") → sees_word (codes "apply") i ≡ bytes_eq (key_of v) (codes "apply")
+          → ◌≡◌ {A = Option LetWord} (cond (sees_word (codes "gens") i) (Some Gens) (cond (sees_word (codes "plus") i) (Some Plus) (cond (sees_word (codes "product") i) (Some Product) (cond (sees_word (codes "apply") i) (Some Apply) None)))) (Some v)
+      by Gens g p t a = cc
+      by Plus g p t a = cc
+      by Product g p t a = cc
+      by Apply g p t a = cc
+
+  after_word : (word : LetWord) (f : LetForm) (M : Texts) → Takes bad (form_by names word) f M Ends → Takes bad (let_form names) f (one (Word (key_of word)) ▸ M) Ends
+  unfolding let_form
+  after_word word f M takes i used rest here e h after =
+      let head : shown i ≡ Word (key_of word) ∷ (h.back ++ rest) = e ∙ ap (λ ls. ls ++ rest) (h.parts ∙ ap (λ ls. ls ++ h.back) h.first) in
+      let t = Takes-next bad tt f (one (Word (key_of word))) M Ends skip (form_by names word) (Takes-skip bad (Word (key_of word))) takes i used rest here e h after in
+      record { left = t.left; reads = ap (λ (o : Option LetWord). form_of_word names o i) (let_with word i (h.back ++ rest) head) ∙ t.reads; shows = t.shows; follows = t.follows }
+
+  Takes-let_form : (f : LetForm) → Takes bad (let_form names) f (lets.let_form names f) Ends
+  unfolding key_of
+  Takes-let_form (form.Gens []) = λ i used rest here e u after. absurd u.1.second
+  Takes-let_form (form.Gens (x ∷ more)) = λ i used rest here e u after.
+      after_word Gens (form.Gens (x ∷ more)) (IsExpression names true x ▸ each (lets.more_listed names) more)
+      (Takes-last bad (x ∷ more) (form.Gens (x ∷ more)) (IsExpression names true x ▸ each (lets.more_listed names) more) Ends (listed_from names 16 []) (λ xs. pure (form.Gens xs)) (Takes-listed x more [] 16 u.0) (λ k. refl)) i used rest here e u.1 after
+  Takes-let_form (form.Plus a b) =
+      Takes-to_right bad _ _ _ Ends (let_form names) (form.Plus a b)
+      (after_word Plus (form.Plus a b) (lets.list names a ▸ lets.list names b)
+      (Takes-as bad (lets.list names a ▸ lets.list names b) (lets.list names a ▸ lets.list names b) anywhere Ends (form_by names Plus) (form.Plus a b) (λ ls h. h) (λ rest h. tt)
+      (Takes-last bad (a, b) (form.Plus a b) (lets.list names a ▸ lets.list names b) anywhere (two_lists names) (λ p. pure (form.Plus p.0 p.1)) (Takes-two_lists a b) (λ k. refl))))
+  Takes-let_form (form.Product a b) =
+      Takes-to_right bad _ _ _ Ends (let_form names) (form.Product a b)
+      (after_word Product (form.Product a b) (lets.list names a ▸ lets.list names b)
+      (Takes-as bad (lets.list names a ▸ lets.list names b) (lets.list names a ▸ lets.list names b) anywhere Ends (form_by names Product) (form.Product a b) (λ ls h. h) (λ rest h. tt)
+      (Takes-last bad (a, b) (form.Product a b) (lets.list names a ▸ lets.list names b) anywhere (two_lists names) (λ p. pure (form.Product p.0 p.1)) (Takes-two_lists a b) (λ k. refl))))
+  Takes-let_form (form.Apply a x) =
+      Takes-to_right bad _ _ _ Ends (let_form names) (form.Apply a x) (Takes-to_right bad _ _ _ Ends (let_form names) (form.Apply a x)
+      (after_word Apply (form.Apply a x) (lets.list names a ▸ (one (Sign 58) ▸ IsExpression names true x)) (Takes-applied a x)))
+
+  Takes-definition : (d : Definition) → Takes bad (definition names) d (lets.declared names d.text ▸ (one (Sign 61) ▸ (lets.let_form names d.form ▸ one LineEnd))) (IsFresh bad)
+  unfolding definition
+  Takes-definition d =
+      Takes-then bad d.text d (lets.declared names d.text) (one (Sign 61) ▸ (lets.let_form names d.form ▸ one LineEnd)) (IsFresh bad) (new_name names) (λ text. expect 61 >> (let_form names >>= (λ f. line_end >> pure (record { text = text; form = f })))) (Takes-new_name bad names d.text)
+      (Takes-next bad tt d (one (Sign 61)) (lets.let_form names d.form ▸ one LineEnd) (IsFresh bad) (expect 61) (let_form names >>= (λ f. line_end >> pure (record { text = d.text; form = f }))) (Takes-expect bad 61)
+      (Takes-bind bad d.form d (lets.let_form names d.form) (one LineEnd) Ends (IsFresh bad) (let_form names) (λ f. line_end >> pure (record { text = d.text; form = f })) (Takes-let_form d.form)
+      (Takes-last bad tt d (one LineEnd) (IsFresh bad) line_end (λ _. pure d) (Takes-line_end bad) (λ k. refl))
+      (λ back rest u a. (rest, ap (λ ls. ls ++ rest) u))))
+
+-- ---- lines
+
+module _ (bad : Option ℕ) (variables : List Naming) where
+  abbrev more_by : ℕ → List Definition → Bool → Parser (List Definition)
+  more_by n found more = cond more (definition (with_definitions variables found) >>= (λ d. let_lines_from variables n (found ++ d ∷ []))) (pure found)
+
+  Takes-lines : (more found : List Definition) (n : ℕ) → length more ≤ n → Takes bad (let_lines_from variables n found) (found ++ more) (lets.let_lines_behind variables found more) (AfterLines bad 2)
+  unfolding let_lines_from
+  Takes-lines [] found zero enough = Takes-value bad nothing (AfterLines bad 2) (read.no_more (codes "let") >> pure found) found (found ++ []) (sym (append-nil found)) (Takes-past bad (codes "let") 2 found (omega arith))
+  Takes-lines [] found (suc n) enough =
+      Takes-value bad nothing (AfterLines bad 2) (eat_word (codes "let") >>= more_by n found) found (found ++ []) (sym (append-nil found))
+      (Takes-as bad nothing nothing (λ rest. shows_word (codes "let") rest ≡ false) (AfterLines bad 2) (eat_word (codes "let") >>= more_by n found) found (λ ls h. h) (λ rest a. other_word (codes "let") 2 rest (omega arith) a.from)
+      (Takes-last bad false found nothing (λ rest. shows_word (codes "let") rest ≡ false) (eat_word (codes "let")) (more_by n found) (Takes-no_word bad (codes "let")) (λ k. refl)))
+  Takes-lines (d ∷ more) found zero enough = let no : ⊥ = omega (arith, enough) in absurd no
+  Takes-lines (d ∷ more) found (suc n) enough =
+      Takes-value bad (lets.let_lines_behind variables found (d ∷ more)) (AfterLines bad 2) (eat_word (codes "let") >>= more_by n found) ((found ++ d ∷ []) ++ more) (found ++ d ∷ more) (append_assoc found (d ∷ []) more)
+      (Takes-as bad (one (Word (codes "let")) ▸ (Line ▸ Rest)) (lets.let_lines_behind variables found (d ∷ more)) (AfterLines bad 2) (AfterLines bad 2) (eat_word (codes "let") >>= more_by n found) ((found ++ d ∷ []) ++ more) (λ ls h. apart ls h) (λ rest a. a)
+      (Takes-then bad true ((found ++ d ∷ []) ++ more) (one (Word (codes "let"))) (Line ▸ Rest) (AfterLines bad 2) (eat_word (codes "let")) (more_by n found) (Takes-eat_word bad (codes "let"))
+      (Takes-bind bad d ((found ++ d ∷ []) ++ more) Line Rest (IsFresh bad) (AfterLines bad 2) (definition (with_definitions variables found)) (λ e. let_lines_from variables n (found ++ e ∷ [])) (Takes-definition bad (with_definitions variables found) d)
+      (Takes-lines more (found ++ d ∷ []) n (omega (arith, enough))) (λ back rest h after. fresh_before bad back rest after.fresh))))
+    where
+      Line : Texts
+      Line = lets.declared (with_definitions variables found) d.text ▸ (one (Sign 61) ▸ (lets.let_form (with_definitions variables found) d.form ▸ one LineEnd))
+
+      Rest : Texts
+      Rest = lets.let_lines_behind variables (found ++ d ∷ []) more
+
+      apart : (ls : List Lexeme) → lets.let_lines_behind variables found (d ∷ more) ls → (one (Word (codes "let")) ▸ (Line ▸ Rest)) ls
+      apart ls h = joined_to_right (on_first (λ xs k. joined_to_right (joined_to_right (joined_to_right k))) h)
+
+  pub Takes-let_lines : (ds : List Definition) → Takes bad (let_lines variables) ds (lets.let_lines variables ds) (AfterLines bad 2)
+  unfolding let_lines
+  Takes-let_lines ds i used rest here e u after = Takes-lines ds [] 8 u.0 i used rest here e u.1 after
+
+  pub leads_lets : (ds : List Definition) → Leads bad 1 2 (lets.let_lines variables ds)
+  leads_lets [] = λ back rest u a. leads_nothing bad 1 2 (omega arith) back rest u.1 a
+  leads_lets (d ∷ ds) = λ back rest u a. leads_key bad starts.Let 1 2 _ (omega arith) back rest (joined_to_right (joined_to_right (joined_to_right (joined_to_right u.1)))) a

@@ -1,0 +1,69 @@
+-- Lexemes that stand for `gen` and `use` lines, and for ranges, are read as what they stand for.
+use Rattle.std.proofs.Common.{◌≡◌, ℕ, ◌<◌, ◌≤◌, Bool, true, false, cond, nat_lt, List, [], ◌∷◌, ◌++◌, Option, Some, None, refl, rules, arith, tests}
+use Rattle.ct_mono.specs.Limits.{largest_norm}
+use Rattle.ct_problem.specs.declared.fault.BadKind.TheVariants.{OutOfRange, EmptyRange}
+use Rattle.ct_problem.specs.declared.problem.Range.{Range}
+use Rattle.ct_problem.specs.Input.{Parser, ◌>>=◌, ◌>>◌, pure, skip, eat_word, line_end, dots}
+use Rattle.ct_problem.specs.GrammarProblem as grammar
+use Rattle.ct_problem.specs.Lexemes.{Lexeme, Word, Number, Dots, LineEnd, nothing, one, number, ◌▸◌}
+use Rattle.ct_problem.specs.Lines.{no_more}
+use Rattle.ct_problem.specs.Number.{coming_number, unless}
+use Rattle.ct_problem.specs.Number as digits
+use Rattle.ct_problem.specs.ProblemLines.{high_number, range, range_line}
+use Rattle.ct_problem.proofs.JoinedTexts.{joined_to_right, to_nothing}
+use Rattle.ct_problem.proofs.LexemeSteps.{shows_word}
+use Rattle.ct_problem.proofs.LineStarts.{Key, word_of, rank_of, rank, AfterLines, Leads, other_word, leads_nothing, leads_key}
+use Rattle.ct_problem.proofs.Taking.{Takes, anywhere, Takes-as, Takes-bind, Takes-then, Takes-next, Takes-last, Takes-unless, Takes-skip, Takes-eat_word, Takes-no_word}
+use Rattle.ct_problem.proofs.TakenSteps.{IsFresh, Takes-line_end, Takes-dots, Takes-number, Takes-coming}
+use Rattle.ct_problem.proofs.TakenValues.{Takes-past}
+
+below_is : (a b : ℕ) → b ≤ a → nat_lt a b ≡ false
+below_is a b h = first_of (search (rules, tests), grind (arith, tests))
+
+module _ (bad : Option ℕ) where
+  Takes-high : (limit low n : ℕ) → limit ≤ largest_norm → low ≤ n → n ≤ limit → Takes bad (high_number limit low) n (one (Number n)) anywhere
+  unfolding high_number
+  Takes-high limit low n most rising within =
+      Takes-coming bad n n anywhere (λ m. unless (nat_lt limit m) OutOfRange >> (unless (nat_lt m low) EmptyRange >> (skip >> pure m))) (omega (arith, most, within))
+      (Takes-unless bad n (one (Number n)) anywhere (nat_lt limit n) OutOfRange (unless (nat_lt n low) EmptyRange >> (skip >> pure n)) (below_is limit n within)
+      (Takes-unless bad n (one (Number n)) anywhere (nat_lt n low) EmptyRange (skip >> pure n) (below_is n low rising)
+      (Takes-last bad tt n (one (Number n)) anywhere skip (λ _. pure n) (Takes-skip bad (Number n)) (λ k. refl))))
+
+  Takes-range : (limit : ℕ) (r : Range) → limit ≤ largest_norm → Takes bad (range limit) r (grammar.range limit r) anywhere
+  unfolding range
+  Takes-range limit r most i used rest here e u after =
+      let within = u.spelled.second.0 in
+      Takes-then bad r.low r (number limit r.low) (one Dots ▸ one (Number r.high)) anywhere (digits.number limit OutOfRange) (λ low. dots >> (high_number limit low >>= (λ high. pure (record { low = low; high = high })))) (Takes-number bad limit r.low OutOfRange most)
+      (Takes-next bad tt r (one Dots) (one (Number r.high)) anywhere dots (high_number limit r.low >>= (λ high. pure (record { low = r.low; high = high }))) (Takes-dots bad)
+      (Takes-last bad r.high r (one (Number r.high)) anywhere (high_number limit r.low) (λ high. pure (record { low = r.low; high = high })) (Takes-high limit r.low r.high most u.rising within) (λ k. refl)))
+      i used rest here e (number_alone u.spelled) after
+    where
+      number_alone : {ls : List Lexeme} → (number limit r.low ▸ one Dots ▸ number limit r.high) ls → (number limit r.low ▸ (one Dots ▸ one (Number r.high))) ls
+      number_alone h = joined_to_right (record { front = h.front; back = h.back; parts = h.parts; first = h.first; second = h.second.1 })
+
+  module _ (k : Key) (r limit : ℕ) (below : rank_of (word_of k) < r) (most : limit ≤ largest_norm) where
+    abbrev line_by : Bool → Parser (Option Range)
+    line_by is_there = cond is_there (range limit >>= (λ x. line_end >> (no_more (word_of k) >> pure (Some x)))) (pure None)
+
+    pub Takes-range_line : (o : Option Range) → Takes bad (range_line (word_of k) limit) o (grammar.range_line (word_of k) limit o) (AfterLines bad r)
+    unfolding range_line
+    Takes-range_line None =
+        Takes-as bad nothing nothing (λ rest. shows_word (word_of k) rest ≡ false) (AfterLines bad r) (eat_word (word_of k) >>= line_by) None (λ ls h. h) (λ rest a. other_word (word_of k) r rest below a.from)
+        (Takes-last bad false None nothing (λ rest. shows_word (word_of k) rest ≡ false) (eat_word (word_of k)) line_by (Takes-no_word bad (word_of k)) (λ i. refl))
+    Takes-range_line (Some x) =
+        Takes-as bad (one (Word (word_of k)) ▸ (grammar.range limit x ▸ (one LineEnd ▸ nothing))) (grammar.range_line (word_of k) limit (Some x)) (AfterLines bad r) (AfterLines bad r) (eat_word (word_of k) >>= line_by) (Some x) (λ ls h. apart ls h) (λ rest a. a)
+        (Takes-then bad true (Some x) (one (Word (word_of k))) (grammar.range limit x ▸ (one LineEnd ▸ nothing)) (AfterLines bad r) (eat_word (word_of k)) line_by (Takes-eat_word bad (word_of k))
+        (Takes-then bad x (Some x) (grammar.range limit x) (one LineEnd ▸ nothing) (AfterLines bad r) (range limit) (λ y. line_end >> (no_more (word_of k) >> pure (Some y))) (Takes-range limit x most)
+        (Takes-bind bad tt (Some x) (one LineEnd) nothing (IsFresh bad) (AfterLines bad r) line_end (λ _. no_more (word_of k) >> pure (Some x)) (Takes-line_end bad) (Takes-past bad (word_of k) r (Some x) below)
+        (λ back rest none after. fresh back rest none after.fresh))))
+      where
+        fresh : (back rest : List Lexeme) → nothing back → IsFresh bad rest → IsFresh bad (back ++ rest)
+        fresh [] rest none h = h
+        fresh (l ∷ ls) rest none h = cc
+
+        apart : (ls : List Lexeme) → grammar.range_line (word_of k) limit (Some x) ls → (one (Word (word_of k)) ▸ (grammar.range limit x ▸ (one LineEnd ▸ nothing))) ls
+        apart ls h = let j = joined_to_right h in record { front = j.front; back = j.back; parts = j.parts; first = j.first; second = record { front = j.second.front; back = j.second.back; parts = j.second.parts; first = j.second.first; second = to_nothing j.second.second } }
+
+    pub leads_range : (low : ℕ) (o : Option Range) → low ≤ rank k → low ≤ r → Leads bad low r (grammar.range_line (word_of k) limit o)
+    leads_range low None under over = leads_nothing bad low r over
+    leads_range low (Some x) under over = λ back rest h a. leads_key bad k low r _ under back rest (joined_to_right h) a

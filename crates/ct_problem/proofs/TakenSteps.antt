@@ -1,0 +1,130 @@
+-- The ends of lines, `..` and numbers are read as what they stand for.
+--     IsFresh bad rest      where the step to a line meets no byte that begins no token
+--     Takes-coming          what is done with the number that comes next
+use Rattle.std.proofs.Common.{◌≡◌, ℕ, ◌≤◌, ◌==◌, Bool, true, false, cond, ◌||◌, List, [], ◌∷◌, ◌++◌, Option, Some, None, Ok, IsTrue, refl, ap, ◌∙◌, arith, rules, tests, nat_lt}
+use Rattle.ct_token.specs.declared.token.Symbol.{Symbol}
+use Rattle.ct_token.specs.declared.token.Symbol.TheVariants as symbol
+use Rattle.ct_token.specs.declared.token.Token.{Token}
+use Rattle.ct_token.specs.Lexical.{is_line_end}
+use Rattle.ct_token.specs.Lexing.{slice}
+use Rattle.ct_mono.specs.Limits.{largest_norm}
+use Rattle.ct_problem.specs.declared.fault.BadKind.{BadKind}
+use Rattle.ct_problem.specs.declared.fault.BadKind.TheVariants.{NumberTooLarge}
+use Rattle.ct_problem.specs.Input.{Input, Outcome, Parser, ◌>>=◌, ◌>>◌, and_then, pure, syntax, skip, next, has_line_end, fresh_line, fresh_by, line_end, line_end_by, dots, dots_by, spelling}
+use Rattle.ct_problem.specs.Number as digits
+use Rattle.ct_problem.specs.Number.{unless, coming_number}
+use Rattle.ct_problem.specs.Lexemes.{Lexeme, Word, Number, Sign, Dots, LineEnd, Texts, nothing, one, number, lexeme_of, lexemes}
+use Rattle.ct_problem.proofs.LexemeSteps.{shown, value_of-small}
+use Rattle.ct_problem.proofs.Following.{Follows-same, Follows-then, Follows-next}
+use Rattle.ct_problem.proofs.ShownSymbols.{shows_a_number, shows_dots, shows_line_end, decimal-shown, next-shown, same_number}
+use Rattle.ct_problem.proofs.Taking.{Takes, anywhere, headed, Takes-last, Takes-skip, Takes-unless}
+
+-- ---- lines
+
+-- a line ends there
+abbrev pub has_end : List Lexeme → Bool
+has_end [] = false
+has_end (LineEnd ∷ ls) = true
+has_end (Word w ∷ ls) = has_end ls
+has_end (Number n ∷ ls) = has_end ls
+has_end (Sign s ∷ ls) = has_end ls
+has_end (Dots ∷ ls) = has_end ls
+
+-- where lines may be stepped to: in the text before the byte that begins no token
+abbrev pub IsFresh : Option ℕ → Texts
+IsFresh None rest = Unit {0}
+IsFresh (Some at) rest = IsTrue (has_end rest)
+
+end_of : (s : Symbol) (bytes : List ℕ) (ls : List Lexeme) (b : Bool) → b ≡ has_end ls → is_line_end s || b ≡ has_end (lexeme_of s bytes ∷ ls)
+end_of symbol.Word bytes ls b e = e
+end_of symbol.Number bytes ls b e = e
+end_of (symbol.Sign s) bytes ls b e = e
+end_of symbol.Dots bytes ls b e = e
+end_of symbol.LineEnd bytes ls b e = refl
+
+ends_in : (text : List ℕ) (left : List Token) → has_line_end left ≡ has_end (lexemes text left)
+unfolding has_line_end
+ends_in text [] = refl
+ends_in text (t ∷ ts) = end_of t.symbol (slice t.from t.to text) (lexemes text ts) (has_line_end ts) (ends_in text ts)
+
+pub has_line_end-shown : (i : Input) → has_line_end i.left ≡ has_end (shown i)
+has_line_end-shown i = ends_in i.text i.left
+
+fresh_is : (bad : Option ℕ) (rest : List Lexeme) (i : Input) → IsFresh bad rest → fresh_by (has_end rest) bad i ≡ Ok (tt, i)
+fresh_is None rest i h = by (has_end rest)
+  where
+    by : (b : Bool) → fresh_by b None i ≡ Ok (tt, i)
+    by true = refl
+    by false = refl
+fresh_is (Some at) rest i h = ap (λ (b : Bool). fresh_by b (Some at) i) h
+
+module _ (bad : Option ℕ) where
+  -- ---- the ends of lines
+
+  pub Takes-fresh_line : Takes bad fresh_line tt nothing (IsFresh bad)
+  unfolding fresh_line
+  Takes-fresh_line i used rest here e u after =
+      let here_shown : shown i ≡ rest = e ∙ ap (λ ls. ls ++ rest) u in
+      record {
+        left = i;
+        reads = ap (λ (b : Bool). fresh_by b i.bad i) (has_line_end-shown i ∙ ap has_end here_shown) ∙ ap (λ (o : Option ℕ). fresh_by (has_end rest) o i) here ∙ fresh_is bad rest i after;
+        shows = here_shown;
+        follows = Follows-same i;
+      }
+
+  pub Takes-line_end : Takes bad line_end tt (one LineEnd) (IsFresh bad)
+  unfolding line_end
+  Takes-line_end i used rest here e u after =
+      let head = headed bad i used rest LineEnd e u in
+      let t = Takes-fresh_line (next i) [] rest here (next-shown i rest LineEnd head) refl after in
+      record { left = t.left; reads = ap (λ (o : Option Symbol). line_end_by o i) (shows_line_end i rest head) ∙ t.reads; shows = t.shows; follows = Follows-then i (next i) t.left (Follows-next i) t.follows }
+
+  -- ---- `..`
+
+  pub Takes-dots : Takes bad dots tt (one Dots) anywhere
+  unfolding dots
+  Takes-dots i used rest here e u after =
+      let head = headed bad i used rest Dots e u in
+      record { left = next i; reads = ap (λ (o : Option Symbol). dots_by o i) (shows_dots i rest head); shows = next-shown i rest Dots head; follows = Follows-next i }
+
+  -- ---- numbers
+
+  digits_read : (i : Input) (n : ℕ) (rest : List Lexeme) → shown i ≡ Number n ∷ rest → n ≤ largest_norm → digits.digits i ≡ Ok (n, i)
+  unfolding digits.digits
+  digits_read i n rest head low =
+      let written = decimal-shown i rest n head in
+      let value : digits.value_of (spelling i) ≡ n = value_of-small (spelling i) (omega (arith, written, low)) ∙ written in
+      ap (λ (o : Option Symbol). digits.digits_by o i) (shows_a_number i rest n head) ∙ ap (λ (m : ℕ). let o : Outcome ℕ = Ok (m, i) in o) value
+
+  -- the number that comes next stays
+  pub coming_read : (i : Input) (n : ℕ) (rest : List Lexeme) → shown i ≡ Number n ∷ rest → n ≤ largest_norm → coming_number i ≡ Ok (n, i)
+  unfolding coming_number
+  coming_read i n rest head low =
+      let within : nat_lt largest_norm n ≡ false = first_of (search (rules, tests), grind (arith, tests)) in
+      ap (λ o. and_then o (λ m. unless (nat_lt largest_norm m) NumberTooLarge >> pure m)) (digits_read i n rest head low) ∙ ap (λ (b : Bool). (unless b NumberTooLarge >> pure n) i) within
+
+  -- what is done with the number that comes next
+  pub Takes-coming : {A : Type 0} (x : A) (n : ℕ) (F : Texts) (f : ℕ → Parser A) → n ≤ largest_norm → Takes bad (f n) x (one (Number n)) F → Takes bad (coming_number >>= f) x (one (Number n)) F
+  Takes-coming x n F f low t i used rest here e u after =
+      let r = t i used rest here e u after in
+      record { left = r.left; reads = ap (λ o. and_then o f) (coming_read i n rest (headed bad i used rest (Number n) e u) low) ∙ r.reads; shows = r.shows; follows = r.follows }
+
+  pub Takes-number : (limit n : ℕ) (kind : BadKind) → limit ≤ largest_norm → Takes bad (digits.number limit kind) n (number limit n) anywhere
+  unfolding digits.number
+  Takes-number limit n kind low i used rest here e u after =
+      let small = u.0 in
+      let within : nat_lt limit n ≡ false = first_of (search (rules, tests), grind (arith, tests)) in
+      Takes-coming n n anywhere (λ m. unless (nat_lt limit m) kind >> (skip >> pure m)) (omega (arith, small, low))
+      (Takes-unless bad n (one (Number n)) anywhere (nat_lt limit n) kind (skip >> pure n) within (Takes-last bad tt n (one (Number n)) anywhere skip (λ _. pure n) (Takes-skip bad (Number n)) (λ k. refl)))
+      i used rest here e u.1 tt
+
+  pub Takes-exactly : (n : ℕ) → n ≤ largest_norm → Takes bad (digits.exactly n) tt (one (Number n)) anywhere
+  unfolding digits.exactly
+  Takes-exactly n low i used rest here e u after =
+      let head = headed bad i used rest (Number n) e u in
+      record {
+        left = next i;
+        reads = ap (λ o. and_then o (λ m. cond (m == n) skip syntax)) (digits_read i n rest head low) ∙ ap (λ (b : Bool). cond b skip syntax i) (same_number n);
+        shows = next-shown i rest (Number n) head;
+        follows = Follows-next i;
+      }

@@ -1,7 +1,0 @@
-use Rattle.std.proofs.Common.{◌≡◌, ◌++◌, drop}
-use Rattle.ct_ore.specs.Naming.{namings_of}
-use Rattle.ct_problem.specs.Declarations.{summed_texts}
-use Rattle.ct_problem.proofs.reading.declarations.summed_texts.Given as goal
-
-abbrev pub invariant-loop-info : goal.invariant-loop-info
-invariant-loop-info l = l.texts ++ summed_texts (namings_of (drop l.info-index l.names)) ≡ summed_texts (namings_of l.names)

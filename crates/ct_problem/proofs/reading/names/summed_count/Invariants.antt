@@ -1,0 +1,7 @@
+use Rattle.std.proofs.Common.{◌≡◌, ◌≤◌, ◌+◌, length, drop}
+use Rattle.ct_ore.specs.Naming.{namings_of}
+use Rattle.ct_problem.specs.Names.{summed_texts}
+use Rattle.ct_problem.proofs.reading.names.summed_count.Given as goal
+
+abbrev pub invariant-loop-info : goal.invariant-loop-info
+invariant-loop-info l = record { so_far : l.count + length (summed_texts (namings_of (drop l.info-index l.names))) ≡ length (summed_texts (namings_of l.names)); within : l.count ≤ l.info-index }

@@ -1,0 +1,7 @@
+use Rattle.std.proofs.Common.{◌≡◌, ◌++◌, drop}
+use Rattle.ct_ore.specs.Naming.{namings_of}
+use Rattle.ct_problem.specs.Names.{summed_texts}
+use Rattle.ct_problem.proofs.reading.names.summed_texts.Given as goal
+
+abbrev pub invariant-loop-info : goal.invariant-loop-info
+invariant-loop-info l = l.texts ++ summed_texts (namings_of (drop l.info-index l.names)) ≡ summed_texts (namings_of l.names)

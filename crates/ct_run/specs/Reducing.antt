@@ -1,0 +1,92 @@
+-- What `reduce` gives out: the left reduction of each target by the generators.
+--     checked_reductions a gs done xs    the reductions of operators in order, or the number of the first that overflows
+--     reduced_text names rs              the reductions as text, the targets and the cofactors counted from 1
+--     reduced p                          the outcome and the text for a problem
+-- Above it: `AreReduced` says what a text of reductions means.
+use Rattle.std.specs.Prelude.{◌≡◌, ℕ, ◌+◌, List, [], ◌∷◌, ◌++◌, length, codes, decimal, Result, Ok, Err}
+use Rattle.ct_algebra.specs.Names.{Name}
+use Rattle.ct_algebra.specs.Actions.{Action}
+use Rattle.ct_algebra.specs.Operators.{Operator}
+use Rattle.ct_io.specs.declared.command.Command.TheVariants.{Reduce}
+use Rattle.ct_mono.specs.Checked.{Checked}
+use Rattle.ct_mono.specs.declared.fault.Kind.{Kind}
+use Rattle.ct_ore.specs.Naming.{Naming, actions_of}
+use Rattle.ct_reduce.specs.Membership.{Reduction, ReducesTo, IsReduced}
+use Rattle.ct_reduce.specs.Reduction.{checked_reduction}
+use Rattle.ct_answer.specs.Text.{polynomial_text, operator_text}
+use Rattle.ct_problem.specs.ReadProblem.{Reading, problem_of}
+use Rattle.ct_run.specs.declared.status.Outcome.TheVariants.{Done}
+use Rattle.ct_run.specs.Lines.{line_of, overflow_in_setup, overflow_in_reduction, zero_generator}
+use Rattle.ct_run.specs.Output.{Output}
+use Rattle.ct_run.specs.Setup.{Plain, Refusal, ZeroGenerator, Overflow, plain_setup}
+
+-- ---- the reductions
+
+-- a target and the kind of its overflow
+abbrev pub TargetOverflow : Type 0
+TargetOverflow = ℕ × Kind
+
+abbrev pub with_reduction : List Reduction → Checked Reduction → (List Reduction → Result (List Reduction) TargetOverflow) → Result (List Reduction) TargetOverflow
+with_reduction done (Ok r) more = more (done ++ r ∷ [])
+with_reduction done (Err kind) more = Err (length done + 1, kind)
+
+abbrev pub checked_reductions : (Name → Action) → List Operator → List Reduction → List Operator → Result (List Reduction) TargetOverflow
+checked_reductions a generators done [] = Ok done
+checked_reductions a generators done (x ∷ xs) =
+    with_reduction done (checked_reduction a generators x) (λ more. checked_reductions a generators more xs)
+
+-- ---- their text
+
+module _ (names : List Naming) where
+  abbrev pub cofactor_lines : ℕ → List Operator → List ℕ
+  cofactor_lines place [] = []
+  cofactor_lines place (c ∷ cs) =
+      line_of (codes "cofactor " ++ decimal place ++ codes ": " ++ operator_text names c) ++ cofactor_lines (place + 1) cs
+
+  unfoldable pub target_lines : ℕ → Reduction → List ℕ
+  target_lines place r =
+      line_of (codes "target " ++ decimal place)
+      ++ line_of (codes "scale " ++ polynomial_text names r.scale)
+      ++ cofactor_lines 1 r.cofactors
+      ++ line_of (codes "rest " ++ operator_text names r.rest)
+
+  abbrev pub targets_lines : ℕ → List Reduction → List ℕ
+  targets_lines place [] = []
+  targets_lines place (r ∷ rs) = target_lines place r ++ targets_lines (place + 1) rs
+
+  unfoldable pub reduced_text : List Reduction → List ℕ
+  reduced_text rs = line_of (codes "mgfun reduce 1") ++ targets_lines 1 rs ++ line_of (codes "end")
+
+-- ---- the answer
+
+abbrev pub by_reductions : List Naming → Result (List Reduction) TargetOverflow → Output
+by_reductions names (Ok rs) = record { outcome = Done; text = reduced_text names rs }
+by_reductions names (Err e) = overflow_in_reduction e.0 e.1
+
+abbrev pub by_setup : Reading → Result Plain Refusal → Output
+by_setup p (Ok s) = by_reductions p.variables (checked_reductions (actions_of p.variables) s.generators [] s.targets)
+by_setup p (Err (ZeroGenerator place)) = zero_generator place
+by_setup p (Err (Overflow kind)) = overflow_in_setup kind
+
+unfoldable pub reduced : Reading → Output
+reduced p = by_setup p (plain_setup p)
+
+-- ---- what it means
+
+-- each of these operators reduces to the reduction at its place
+abbrev pub EachReduces : (Name → Action) → List Operator → List Operator → List Reduction → Type 0
+EachReduces a generators [] [] = Unit {0}
+EachReduces a generators (x ∷ xs) (r ∷ rs) = (ReducesTo a generators x r × IsReduced generators r.rest) × EachReduces a generators xs rs
+EachReduces a generators _ _ = ⊥
+
+-- the bytes are a problem, and this text shows for each target of it a reduction: the scale isn't zero, the scale times the
+-- target is the combination of the cofactors and the generators plus the rest, and the rest is reduced
+pub record AreReduced (bytes : List ℕ) (text : List ℕ) : Type 0 where
+  pub problem : Reading
+  pub end : ℕ
+  pub read : problem_of Reduce bytes ≡ Ok (problem, end)
+  pub plain : Plain
+  pub valued : plain_setup problem ≡ Ok plain
+  pub reductions : List Reduction
+  pub each : EachReduces (actions_of problem.variables) plain.generators plain.targets reductions
+  pub shown : text ≡ reduced_text problem.variables reductions
