@@ -1,10 +1,10 @@
 -- A cursor that comes after another: the same text, up to the same place, of whose tokens some were taken.
 --     Follows i j       j comes after i
 --     used-taken        the lexemes that were taken are those of the tokens that were
-use Rattle.std.proofs.Common.{◌≡◌, ℕ, Bool, true, false, List, [], ◌∷◌, ◌++◌, refl, sym, ap, ◌∙◌}
+use Rattle.std.proofs.Common.{◌≡◌, ℕ, List, [], ◌∷◌, ◌++◌, refl, sym, ap, ◌∙◌}
 use Rattle.std.proofs.lemmas.List.{append_assoc, append_cancel_right}
 use Rattle.ct_token.specs.declared.token.Token.{Token}
-use Rattle.ct_problem.specs.Input.{Input, next, past, tail}
+use Rattle.ct_problem.specs.Input.{Input, next, tail}
 use Rattle.ct_problem.specs.Lexemes.{Lexeme, lexemes}
 use Rattle.ct_problem.proofs.LexemeSteps.{shown}
 
@@ -31,10 +31,6 @@ Follows-next i = by i.left
     by : (left : List Token) → Follows (record i { left = left }) (record i { left = tail left })
     by [] = record { same_text = refl; same_bad = refl; front = []; parts = refl }
     by (t ∷ ts) = record { same_text = refl; same_bad = refl; front = t ∷ []; parts = refl }
-
-pub Follows-past : (found : Bool) (i : Input) → Follows i (past found i)
-Follows-past true i = Follows-next i
-Follows-past false i = Follows-same i
 
 -- ---- lexemes
 

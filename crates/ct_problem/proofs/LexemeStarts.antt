@@ -20,9 +20,6 @@ Opens-joined h o = record { head = o.head; back = o.back ++ h.back; parts = h.pa
 pub Opens-one : (l : Lexeme) (ls : List Lexeme) → one l ls → ((rest : List Lexeme) → shows_sign 45 (l ∷ rest) ≡ false) → Opens ls
 Opens-one l ls u other = record { head = l; back = []; parts = u; no_minus = other }
 
-pub Opens-some : (ls : List Lexeme) → Opens ls → 0 < length ls
-Opens-some ls o = let count = ap length o.parts in omega (arith, count)
-
 pub Opens-before : (ls rest : List Lexeme) → Opens ls → shows_sign 45 (ls ++ rest) ≡ false
 Opens-before ls rest o = ap (λ xs. shows_sign 45 (xs ++ rest)) o.parts ∙ o.no_minus (o.back ++ rest)
 

@@ -25,10 +25,6 @@ LastEnds [] = ⊥
 LastEnds (b ∷ []) = b ≡ 10
 LastEnds (b ∷ c ∷ bs) = LastEnds (c ∷ bs)
 
-LastEnds-cons : (b : ℕ) (bs : List ℕ) → LastEnds bs → LastEnds (b ∷ bs)
-LastEnds-cons b [] h = absurd h
-LastEnds-cons b (c ∷ bs) h = h
-
 LastEnds-back : (xs : List ℕ) (c : ℕ) (ys : List ℕ) → LastEnds (xs ++ c ∷ ys) → LastEnds (c ∷ ys)
 LastEnds-back [] c ys h = h
 LastEnds-back (x ∷ []) c ys h = h

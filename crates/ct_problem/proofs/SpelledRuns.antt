@@ -3,11 +3,11 @@
 --     Goes D p L      the lexemes before, which are of D, and those that p takes are of L x for the value x that it gives, where
 --                     tokens are left behind them
 --     Goes-bind and others  the steps that every rule is made of
-use Rattle.std.proofs.Common.{◌≡◌, ℕ, Bool, true, false, cond, List, [], ◌∷◌, ◌++◌, Ok, Err, refl, sym, ap, ◌∙◌, subst}
+use Rattle.std.proofs.Common.{◌≡◌, Bool, true, false, List, [], ◌∷◌, ◌++◌, Ok, Err, refl, sym, ap, ◌∙◌, subst}
 use Rattle.std.proofs.lemmas.List.{append_assoc, append-nil}
 use Rattle.ct_token.specs.declared.token.Token.{Token}
 use Rattle.ct_problem.specs.declared.fault.BadKind.{BadKind}
-use Rattle.ct_problem.specs.Input.{Input, Outcome, Parser, ◌>>=◌, ◌>>◌, and_then, pure, look, fault, fault_at, fresh_line, line_end}
+use Rattle.ct_problem.specs.Input.{Input, Outcome, Parser, ◌>>=◌, ◌>>◌, and_then, pure, look, fault, fresh_line, line_end}
 use Rattle.ct_problem.specs.Lexemes.{Lexeme, LineEnd, Texts, nothing, one, ◌▸◌}
 use Rattle.ct_problem.specs.Number.{unless}
 use Rattle.ct_problem.proofs.Following.{Follows, Follows-same, Follows-then}
@@ -53,9 +53,6 @@ module _ {A : Type 0} (D : Texts) (L : A → Texts) where
   pub Goes-fault : (kind : BadKind) → Goes D (fault kind) L
   Goes-fault kind i j y e = cc
 
-  pub Goes-fault_at : (kind : BadKind) (at : ℕ) → Goes D (fault_at kind at) L
-  Goes-fault_at kind at i j y e = cc
-
   -- a rule of its own comes last
   pub Goes-last : (M : A → Texts) (p : Parser A) → Spells p M → ((x : A) (ls : List Lexeme) → (D ▸ M x) ls → L x ls) → Goes D p L
   Goes-last M p last h i j x e =
@@ -77,10 +74,6 @@ module _ {A : Type 0} (D : Texts) (L : A → Texts) where
   pub Goes-unless : (b : Bool) (kind : BadKind) (p : Parser A) → (b ≡ false → Goes D p L) → Goes D (unless b kind >> p) L
   Goes-unless true kind p rest i j x e = cc
   Goes-unless false kind p rest i j x e = rest refl i j x e
-
-  pub Goes-cond : (b : Bool) (p q : Parser A) → (b ≡ true → Goes D p L) → (b ≡ false → Goes D q L) → Goes D (cond b p q) L
-  Goes-cond true p q one other = one refl
-  Goes-cond false p q one other = other refl
 
   -- a rule that looks at the cursor first
   pub Goes-seen : {Y : Type 0} (g : Input → Y) (f : Y → Parser A) → ((y : Y) → Goes D (f y) L) → Goes D (λ i. f (g i) i) L

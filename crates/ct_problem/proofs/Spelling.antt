@@ -8,8 +8,7 @@ use Rattle.std.proofs.lemmas.Bool.{false≢true}
 use Rattle.std.proofs.lemmas.Slice.Eq.{bytes_eq-Decides}
 use Rattle.ct_problem.specs.declared.fault.BadKind.{BadKind}
 use Rattle.ct_problem.specs.declared.fault.BadKind.TheVariants.{Syntax}
-use Rattle.ct_problem.specs.Input.{Input, Outcome, Parser, ◌>>=◌, ◌>>◌, and_then, pure, fault, next, past, sees, eat, expect, sees_word, eat_word, expect_word, required}
-use Rattle.ct_problem.specs.Number.{unless}
+use Rattle.ct_problem.specs.Input.{Input, Outcome, Parser, ◌>>=◌, and_then, pure, fault, next, past, sees, eat, expect, sees_word, eat_word, expect_word, required}
 use Rattle.ct_problem.specs.Lexemes.{Lexeme, Word, Number, Sign, Dots, LineEnd, Texts, one, optional, ◌▸◌}
 use Rattle.ct_problem.proofs.LexemeSteps.{shown, shows_sign, shows_word, after_first, sees-shown, sees_word-shown, shown-next}
 use Rattle.ct_problem.proofs.JoinedTexts.{joined}
@@ -64,18 +63,6 @@ module _ {A : Type 0} (L : A → Texts) where
   Continues-last M p last h i j x before d e =
       let s = last i j x e in
       record { used = s.used; parts = s.parts; spells = h x (before ++ s.used) (joined before s.used d s.spells); follows = s.follows }
-
-  pub Spells-as : (M : A → Texts) (p : Parser A) → Spells p M → ((x : A) (ls : List Lexeme) → M x ls → L x ls) → Spells p L
-  Spells-as M p s h i j x e = Spelled-as (M x) (L x) i j (h x) (s i j x e)
-
-  -- where a test has to fail
-  pub Spells-unless : (b : Bool) (kind : BadKind) (p : Parser A) → (b ≡ false → Spells p L) → Spells (unless b kind >> p) L
-  Spells-unless true kind p rest i j x e = cc
-  Spells-unless false kind p rest i j x e = rest refl i j x e
-
-  pub Continues-unless : (D : Texts) (b : Bool) (kind : BadKind) (p : Parser A) → (b ≡ false → Continues D p L) → Continues D (unless b kind >> p) L
-  Continues-unless D true kind p rest i j x before d e = cc
-  Continues-unless D false kind p rest i j x before d e = rest refl i j x before d e
 
 pub Continues-pure : {A : Type 0} (L : A → Texts) {D : Texts} (x : A) → ((ls : List Lexeme) → D ls → L x ls) → Continues D (pure x) L
 Continues-pure L x h i j y before d e =

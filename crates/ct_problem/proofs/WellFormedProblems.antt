@@ -1,5 +1,5 @@
--- What is read as a problem is well formed. Main lemmas `head_is_algebra` and `gives_problem`, which `read_problem` cites.
-use Rattle.std.proofs.Common.{◌≡◌, ℕ, ◌<◌, ◌≤◌, Bool, true, false, cond, List, [], ◌∷◌, length, map, Some, None, Result, Ok, Err, IfOk, string_bytes, nat_lt, refl, ap, subst, ◌∙◌, codes, ltb-false}
+-- What is read as a problem is well formed. Main lemmas `reading_is`, and `draft_formed`, at the end, which `problem` cites.
+use Rattle.std.proofs.Common.{◌≡◌, ℕ, ◌<◌, ◌≤◌, Bool, true, false, cond, List, [], ◌∷◌, length, Some, None, Ok, Err, nat_lt, refl, ap, subst, codes, ltb-false}
 use Rattle.std.proofs.lemmas.List.{length-map}
 use Rattle.ct_io.specs.declared.command.Command.{Command}
 use Rattle.ct_token.specs.Lexical.{scan_of}
@@ -7,21 +7,21 @@ use Rattle.ct_token.proofs.TokenPlaces.{scans_are_tokens}
 use Rattle.ct_ore.specs.Naming.{Naming, IsAlgebra}
 use Rattle.ct_problem.specs.declared.expr.Expr.{Expr}
 use Rattle.ct_problem.specs.declared.fault.BadKind.TheVariants.{OutOfRange, EmptyRange}
-use Rattle.ct_problem.specs.declared.fault.ReadFault.{ReadFault}
 use Rattle.ct_problem.specs.declared.problem.Gens.{Gens}
 use Rattle.ct_problem.specs.declared.problem.Gens.TheVariants.{Listed, Named}
-use Rattle.ct_problem.specs.declared.problem.Problem.{Problem}
 use Rattle.ct_problem.specs.declared.problem.Range.{Range}
+use Rattle.ct_problem.specs.declared.reading.body.Draft.{Draft}
 use Rattle.ct_problem.specs.Input.{Input, Outcome, ◌>>=◌, ◌>>◌, and_then, pure, skip, eat_word, line_end}
 use Rattle.ct_problem.specs.Declarations.{declarations}
 use Rattle.ct_problem.specs.DenLines.{den_lines}
+use Rattle.ct_problem.specs.Draft.{IsFormed, reading_of_draft}
 use Rattle.ct_problem.specs.LetLines.{Definition, with_definitions, let_lines, list_name}
 use Rattle.ct_problem.specs.Lines.{no_more, value_lines}
 use Rattle.ct_problem.specs.Names.{Names}
 use Rattle.ct_problem.specs.Number.{coming_number, number}
 use Rattle.ct_problem.specs.ProblemLines.{used, listed_or_used, generators, high_number, range, range_line}
-use Rattle.ct_problem.specs.ReadProblem.{Reading, head, body, last_line, problem, problem_of, value_of, input_of_scan, most_bytes, too_long, reading_of, Gives}
-use Rattle.ct_problem.specs.WellFormed.{AreGenerators, IsGens, AreForms, AreDens, IsRange, IsProblem}
+use Rattle.ct_problem.specs.ReadProblem.{Reading, head, body, last_line, problem, problem_of, value_of, input_of_scan, most_bytes, too_long}
+use Rattle.ct_problem.specs.WellFormed.{AreGenerators, IsGens, AreForms, AreDens, IsRange}
 use Rattle.ct_problem.proofs.AlgebraNames.{Makes-declarations}
 use Rattle.ct_problem.proofs.Definitions.{length-definitions_of, forms_of}
 use Rattle.ct_problem.proofs.Steps.{IsAt, Makes, Anything, Makes-pure, Makes-cond, Makes-bind, Makes-then, Makes-unless, Makes-skip, Makes-eat_word, Makes-fresh_line, Makes-line_end, Makes-dots, Makes-coming_number, Makes-number}
@@ -93,9 +93,9 @@ Makes-range_line key limit =
 -- ---- the whole
 
 -- what is known of the names and the `let` lines
-pub record IsHead (h : List Naming × List Definition) : Type 0 where
-  pub algebra : IsAlgebra h.0
-  pub lets : AreLets h.1
+record IsHead (h : List Naming × List Definition) : Type 0 where
+  algebra : IsAlgebra h.0
+  lets : AreLets h.1
 
 Makes-head : Makes head IsHead
 unfolding head
@@ -105,9 +105,6 @@ Makes-head =
     (Makes-bind IsAlgebra IsHead declarations _ Makes-declarations (λ variables algebra.
     Makes-bind AreLets IsHead (let_lines variables) (λ definitions. pure (variables, definitions)) (Makes-let_lines variables algebra.few) (λ definitions lets.
     Makes-pure IsHead (variables, definitions) (record { algebra = algebra; lets = lets })))))
-
-pub head_is_algebra : (i j : Input) (h : List Naming × List Definition) → IsAt i → head i ≡ Ok (h, j) → IsAlgebra h.0
-head_is_algebra i j h at e = let made = Makes-head i j h at e in made.holds.algebra
 
 -- what is known of a reading
 pub record IsReading (p : Reading) : Type 0 where
@@ -183,25 +180,30 @@ reading_is command bytes r e = by (nat_lt most_bytes (length bytes)) e
     by true h = cc
     by false h = read (problem command (input_of_scan bytes (scan_of bytes 0))) refl h
 
--- ---- the code's problem
+-- ---- what the code has read
 
-problem_formed : (p : Problem) → length p.let_names.items ≡ length p.lets → IsReading (reading_of p) → IsProblem p
-problem_formed p each known =
-    let texts : length (map string_bytes p.let_names.items) ≡ length p.lets = length-map p.let_names.items string_bytes ∙ each in
-    let count = length-definitions_of (map string_bytes p.let_names.items) p.lets texts in
-    let forms = forms_of (map string_bytes p.let_names.items) p.lets texts in
+pub draft_formed :
+    (i j k : Input) (names : List Naming) (definitions : List Definition) (d : Draft) →
+    IsAt i →
+    head i ≡ Ok ((names, definitions), j) →
+    body names definitions j ≡ Ok (reading_of_draft d, k) →
+    length d.names.lets ≡ length d.lets →
+    IsFormed d
+unfolding reading_of_draft
+draft_formed i j k names definitions d at read_head read_body each =
+    let made_head = Makes-head i j (names, definitions) at read_head in
+    let made_body = Makes-body names definitions made_head.holds.algebra made_head.holds.lets j k (reading_of_draft d) made_head.at read_body in
+    let known = made_body.holds in
+    let count = length-definitions_of d.names.lets d.lets each in
+    let forms = forms_of d.names.lets d.lets each in
     record {
       names = known.names;
       few_lets = subst (λ (n : ℕ). n ≤ 8) count known.lets.few;
       a_name_each = each;
-      lets = subst (AreForms 0) forms known.lets.forms;
-      gens = subst (λ (n : ℕ). IsGens n p.gens) count known.gens;
-      dens = known.dens;
-      targets = known.targets;
-      orders = known.orders;
-      degrees = known.degrees;
+      forms = subst (AreForms 0) forms known.lets.forms;
+      generators = subst (λ (n : ℕ). IsGens n d.gens) count known.gens;
+      denominators = known.dens;
+      listed_targets = known.targets;
+      order_range = known.orders;
+      degree_range = known.degrees;
     }
-
-pub gives_problem : (command : Command) (bytes : List ℕ) (r : Result Problem ReadFault) → Gives (problem_of command bytes) r → IfOk r (λ p. length p.let_names.items ≡ length p.lets) → IfOk r IsProblem
-gives_problem command bytes (Ok p) h each = problem_formed p each (reading_is command bytes (reading_of p, p.end) h)
-gives_problem command bytes (Err e) h each = tt

@@ -131,9 +131,6 @@ syntax = fault Syntax
 abbrev pub peek : Parser (Option Symbol)
 peek = look symbol
 
-abbrev pub spelled : Parser (List ℕ)
-spelled = look spelling
-
 abbrev pub skip : Parser (Unit {0})
 skip = λ i. Ok (tt, next i)
 

@@ -24,4 +24,5 @@ pub mod ReadReport
 pub mod ValueArithmetic
 pub mod Value
 pub mod WellFormed
+pub mod WellFormedProps
 pub mod ValueLaws

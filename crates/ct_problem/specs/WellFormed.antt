@@ -1,10 +1,11 @@
--- What a problem and a report that were read keep to, and so what whoever uses them may count on.
+-- What a problem and a report that was read keep to, and so what whoever uses them may count on.
 --     IsOperator x, IsPolynomial x     an expression whose value can be asked for; one without symbols
---     IsProblem p                      its expressions can be evaluated, the lists that a `let` line names are of earlier lines, an
---                                      entry of `dens` stands there for each name, its ranges are within the limits, and there are
---                                      no more lines of a kind than may be
+--     IsWellFormed ..                  of the fields of a problem: the names are an algebra, the expressions can be evaluated, the
+--                                      lists that a `let` line names are of earlier lines, an entry of `dens` stands there for each
+--                                      name, the ranges are within the limits, and there are no more lines of a kind than may be
 --     IsReportOn names count r         its expressions can be evaluated, and a quotient, a factor or a cofactor stands there for
 --                                      each summed name or generator
+-- `IsWellFormed` is the ghost field of `Problem`, so nothing here mentions that type.
 use Rattle.std.specs.Prelude.{◌≡◌, ◌<◌, ◌≤◌, ℕ, suc, List, [], ◌∷◌, length, Option, Some, None, IsTrue}
 use Rattle.ct_ore.specs.Naming.{Naming, IsAlgebra}
 use Rattle.ct_problem.specs.declared.expr.Expr.{Expr}
@@ -12,7 +13,6 @@ use Rattle.ct_problem.specs.declared.problem.Gens.{Gens}
 use Rattle.ct_problem.specs.declared.problem.Gens.TheVariants as gens
 use Rattle.ct_problem.specs.declared.problem.LetForm.{LetForm}
 use Rattle.ct_problem.specs.declared.problem.LetForm.TheVariants as form
-use Rattle.ct_problem.specs.declared.problem.Problem.{Problem}
 use Rattle.ct_problem.specs.declared.problem.Range.{Range}
 use Rattle.ct_problem.specs.declared.report.Quotient.{Quotient}
 use Rattle.ct_problem.specs.declared.report.Report.{Report}
@@ -63,16 +63,19 @@ abbrev pub IsRange : ℕ → Option Range → Type 0
 IsRange limit None = Unit {0}
 IsRange limit (Some r) = (r.low ≤ r.high) × (r.high ≤ limit)
 
-pub record IsProblem (p : Problem) : Type 0 where
-  pub names : IsAlgebra p.algebra
-  pub few_lets : length p.lets ≤ 8
-  pub a_name_each : length p.let_names.items ≡ length p.lets
-  pub lets : AreForms 0 p.lets
-  pub gens : IsGens (length p.lets) p.gens
-  pub dens : AreDens p.algebra p.dens
-  pub targets : AreGenerators p.targets
-  pub orders : IsRange 8 p.orders
-  pub degrees : IsRange 12 p.degrees
+-- what the fields of a problem keep to
+pub record IsWellFormed
+    {Text : Type 0} (algebra : List Naming) (lets : List LetForm) (let_names : List Text) (gens : Gens) (dens : Dens)
+    (targets : List Expr) (orders degrees : Option Range) : Type 0 where
+  pub names : IsAlgebra algebra
+  pub few_lets : length lets ≤ 8
+  pub a_name_each : length let_names ≡ length lets
+  pub forms : AreForms 0 lets
+  pub generators : IsGens (length lets) gens
+  pub denominators : AreDens algebra dens
+  pub listed_targets : AreGenerators targets
+  pub order_range : IsRange 8 orders
+  pub degree_range : IsRange 12 degrees
 
 -- ---- reports
 

@@ -7,7 +7,8 @@
 //! first, then `specs/Grammar.antt` for expressions, `specs/GrammarLets.antt` and `specs/GrammarProblem.antt`
 //! for the lines of a problem, and `specs/GrammarReport.antt` for those of a report. Which fault of a text is
 //! the first is said by the rules that read it token after token, as the code does: `specs/ReadProblem.antt`
-//! and the files of rules that it names. `specs/WellFormed.antt` says what is known of all that was read.
+//! and the files of rules that it names. `specs/WellFormed.antt` says what every `Problem` keeps to by its ghost
+//! field, and what is known of a report that was read.
 #![tactic(auto)]
 
 mod evaluation;
@@ -23,6 +24,7 @@ mod report;
 mod tests;
 mod value;
 
+pub use ct_io::Command;
 pub use evaluation::evaluate;
 pub use expr::{Expr, Summand};
 pub use fault::{BadInput, BadKind, ReadFault};

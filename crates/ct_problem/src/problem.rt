@@ -1,4 +1,6 @@
 // What the text of a problem stands for.
+ghost use Rattle.ct_problem.specs.WellFormed.{IsWellFormed};
+ghost use Rattle.ct_problem.specs.WellFormedProps.{IsWellFormed-prop};
 
 use crate::expr::Expr;
 use ct_ore::Algebra;
@@ -44,4 +46,5 @@ pub struct Problem {
     pub orders: Option<Range>,
     pub degrees: Option<Range>,
     pub end: usize,
+    pub ghost formed: { IsWellFormed algebra lets let_names.items gens dens targets orders degrees } by { IsWellFormed-prop },
 }

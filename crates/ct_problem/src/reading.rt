@@ -1,16 +1,16 @@
 // Reading problems, and reports that found a telescoper.
 ghost use Rattle.std.specs.Prelude.{◌≡◌, ◌≢◌, ◌≤◌, [], length, IfOk, IfErr, IfSome, None};
-ghost use Rattle.ct_ore.specs.Naming.{IsAlgebra, summed_of};
+ghost use Rattle.ct_ore.specs.Naming.{summed_of};
 ghost use Rattle.ct_problem.specs.Cursor.{IsCursor};
 ghost use Rattle.ct_problem.specs.Declarations.{declared};
-ghost use Rattle.ct_problem.specs.Draft.{reading_of_draft};
+ghost use Rattle.ct_problem.specs.Draft.{IsFormed, reading_of_draft};
 ghost use Rattle.ct_problem.specs.GrammarProblem.{StandsFor, StandsForNone};
 ghost use Rattle.ct_problem.specs.GrammarReport.{ReportStandsFor, ReportStandsForNone};
 ghost use Rattle.ct_problem.specs.Input.{ReadsBy};
 ghost use Rattle.ct_problem.specs.ReadProblem as spec;
 ghost use Rattle.ct_problem.specs.ReadProblem.{Gives};
 ghost use Rattle.ct_problem.specs.ReadReport.{report_of};
-ghost use Rattle.ct_problem.specs.WellFormed.{IsProblem, IsReportOn};
+ghost use Rattle.ct_problem.specs.WellFormed.{IsReportOn};
 ghost use Rattle.ct_problem.specs.declared.fault.ReadFault.TheVariants as fault;
 
 mod atoms;
@@ -52,7 +52,6 @@ const MOST_BYTES: usize = 1 << 26;
 #[tactic(auto, unfolding(crate::specs::ReadProblem::problem_of))]
 pub fn read_problem(alloc: Global, bytes: &[u8], command: Command) -> Result<Problem, ReadFault>
     ensures reads { Gives (spec.problem_of command bytes.now) result }
-    ensures formed { IfOk result IsProblem }
     ensures accepts { IfOk result (λ p. StandsFor command bytes.now (spec.reading_of p) p.end) }
     ensures refuses { IfErr result (λ e. e ≢ fault.NoMemory → StandsForNone command bytes.now) }
     ensures within { IfOk result (λ p. p.end ≤ length bytes.now) }
@@ -72,7 +71,6 @@ pub fn read_problem(alloc: Global, bytes: &[u8], command: Command) -> Result<Pro
 fn problem(alloc: Global, tokens: &mut Tokens<'_>, command: Command) -> Result<Problem, ReadFault>
     requires { IsCursor tokens.old.text tokens.old.left }
     ensures reads { ReadsBy (λ p. (spec.reading_of p, p.end)) (spec.problem command tokens.old) result tokens.new }
-    ensures a_name_each { IfOk result (λ p. length p.let_names.items ≡ length p.lets) }
 {
     let (names, lets) = head(alloc, tokens)?;
     let draft = body(alloc, names, lets, tokens)?;
@@ -82,11 +80,9 @@ fn problem(alloc: Global, tokens: &mut Tokens<'_>, command: Command) -> Result<P
 
 #[tactic(auto, unfolding(crate::specs::Draft::reading_of_draft))]
 fn problem_of(draft: Draft, end: usize) -> Problem
-    requires { IsAlgebra draft.names.variables }
+    requires { IsFormed draft }
     ensures reads { spec.reading_of result ≡ reading_of_draft draft }
     ensures end { result.end ≡ end }
-    ensures names { length result.let_names.items ≡ length draft.names.lets }
-    ensures lets { result.lets ≡ draft.lets }
 {
     let Draft {
         names,

@@ -1,7 +1,7 @@
 -- What a run that is done means. Main lemma `shown`, at the end, which the proof of `answer_text` cites.
 -- Under `check` only a text in the first form whose tests all pass is done, and tests that pass certify. Under `reduce` only the
 -- reductions of all targets are.
-use Rattle.std.proofs.Common.{◌≡◌, refl, sym, List, [], ℕ, length, Option, Some, None, Result, Ok, Err, Bool, true, false, IfSome, if◌then◌else◌, subst, arith}
+use Rattle.std.proofs.Common.{◌≡◌, refl, List, [], ℕ, length, Option, Some, None, Result, Ok, Err, Bool, true, false, IfSome, if◌then◌else◌, subst, arith}
 use Rattle.ct_algebra.specs.Operators.{Operator}
 use Rattle.ct_algebra.specs.Certificate.{Certificate}
 use Rattle.ct_mono.specs.Checked.{Checked}
@@ -29,7 +29,7 @@ use Rattle.ct_run.specs.Lines.{bad_input, not_yet, zero_generator, overflow_in_s
 use Rattle.ct_run.specs.Setup.{listed, checked_setup, Plain, Refusal, ZeroGenerator, Overflow, plain_setup}
 use Rattle.ct_run.specs.Checking.{checked_certificate, due_of, found_of, tested, by_certificate, by_generators, checked_form, by_report, is_first, checked_text, IsShown}
 use Rattle.ct_run.specs.Reducing.{TargetOverflow, checked_reductions, by_reductions, by_setup, reduced, AreReduced}
-use Rattle.ct_run.specs.Out.{has_lists, reduced_problem, by_command, by_problem, out, Means}
+use Rattle.ct_run.specs.Out.{has_lists, reduced_problem, by_problem, out, Means}
 use Rattle.ct_run.specs.Run.{Reports}
 use Rattle.ct_run.proofs.CertificateFits.{certificate_fits, setup_length}
 use Rattle.ct_run.proofs.ReducedTexts.{reductions_mean}

@@ -5,7 +5,7 @@
 --     checked_text bytes p end        the same for a problem, and the text behind it
 -- An overflow in the problem's expressions comes before one in the report's, and this before the first test.
 -- Above it: `IsShown` says what a yes means.
-use Rattle.std.specs.Prelude.{◌≡◌, ◌==◌, Bool, true, false, not, ◌&&◌, if◌then◌else◌, is_none, Ok, Err, Option, Some, None, List, [], ◌∷◌, ◌++◌, length, ℕ}
+use Rattle.std.specs.Prelude.{◌≡◌, ◌==◌, Bool, false, not, ◌&&◌, if◌then◌else◌, is_none, Ok, Err, Option, Some, None, List, [], ◌∷◌, ◌++◌, length, ℕ}
 use Rattle.std.specs.List.{list_all}
 use Rattle.ct_algebra.specs.Names.{Name}
 use Rattle.ct_algebra.specs.Polynomial.{Polynomial}

@@ -4,7 +4,7 @@
 --     Means command bytes   what it means that a run of this command over these bytes is done
 -- A text past the limit is refused by its length alone, so no more than `largest_text + 1` bytes of it count.
 -- `run` and `answer` cite it. The words ask for no other commands than `check` and `reduce`.
-use Rattle.std.specs.Prelude.{ℕ, Bool, ◌||◌, not, List, length, if◌then◌else◌, Result, Ok, Err}
+use Rattle.std.specs.Prelude.{ℕ, Bool, ◌||◌, not, List, if◌then◌else◌, Result, Ok, Err}
 use Rattle.ct_io.specs.declared.command.Command.{Command}
 use Rattle.ct_io.specs.declared.command.Command.TheVariants.{Check, Reduce}
 use Rattle.ct_problem.specs.declared.fault.BadInput.{BadInput}

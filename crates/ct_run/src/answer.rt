@@ -1,7 +1,6 @@
 // What is given out for a text.
 ghost use Rattle.std.specs.Prelude.{◌≡◌, IfOk};
 ghost use Rattle.ct_problem.specs.ReadProblem.{reading_of};
-ghost use Rattle.ct_problem.specs.WellFormed.{IsProblem};
 ghost use Rattle.ct_run.specs.Out as spec;
 ghost use Rattle.ct_run.specs.Output.{output_of};
 
@@ -35,7 +34,6 @@ pub(crate) fn answer(alloc: Global, command: Command, bytes: &[u8]) -> Result<Ou
 /// What `reduce` gives out for a problem.
 #[tactic(auto, unfolding(crate::specs::Out::reduced_problem))]
 fn answer_problem(alloc: Global, problem: &Problem) -> Result<Output, NoMemory>
-    requires { IsProblem problem.now }
     ensures value { IfOk result (λ output. output_of output ≡ spec.reduced_problem (reading_of problem.now)) }
 {
     if has_lists(problem) {
@@ -47,7 +45,6 @@ fn answer_problem(alloc: Global, problem: &Problem) -> Result<Output, NoMemory>
 
 /// A `let` or `use` line.
 fn has_lists(problem: &Problem) -> bool
-    requires { IsProblem problem.now }
     ensures { result ≡ spec.has_lists (reading_of problem.now) }
 {
     has_lets(problem) || is_used(&problem.gens)

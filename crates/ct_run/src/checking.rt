@@ -5,7 +5,7 @@ ghost use Rattle.ct_cert.specs.Certificates.{IsAnswerFor};
 ghost use Rattle.ct_ore.specs.Answers.{certificate_of};
 ghost use Rattle.ct_ore.specs.Naming.{summed_of};
 ghost use Rattle.ct_problem.specs.ReadProblem.{reading_of};
-ghost use Rattle.ct_problem.specs.WellFormed.{IsProblem, IsReportOn};
+ghost use Rattle.ct_problem.specs.WellFormed.{IsReportOn};
 ghost use Rattle.ct_run.specs.Checking as spec;
 ghost use Rattle.ct_run.specs.Output.{output_of};
 
@@ -27,8 +27,7 @@ pub(crate) fn answer_check(
     bytes: &[u8],
     problem: &Problem,
 ) -> Result<Output, NoMemory>
-    requires formed { IsProblem problem.now }
-    requires within { problem.now.end ≤ length bytes.now }
+    requires { problem.now.end ≤ length bytes.now }
     ensures value { IfOk result (λ output. output_of output ≡ spec.checked_text bytes.now (reading_of problem.now) problem.now.end) }
 {
     if !is_first(problem) {
@@ -44,7 +43,6 @@ pub(crate) fn answer_check(
 /// No `let`, `use` or `den` line, and one support.
 #[tactic(auto, unfolding(crate::specs::Checking::is_first))]
 fn is_first(problem: &Problem) -> bool
-    requires { IsProblem problem.now }
     ensures { result ≡ spec.is_first (reading_of problem.now) }
 {
     !has_lets(problem)
@@ -79,8 +77,7 @@ fn is_single(range: Option<Range>) -> bool
 /// The same for a text in the first form.
 #[tactic(auto, unfolding(crate::specs::Checking::checked_form))]
 fn answer_form(alloc: Global, problem: &Problem, report: &Report) -> Result<Output, NoMemory>
-    requires formed { IsProblem problem.now }
-    requires reported { IsReportOn (length (summed_of problem.now.algebra)) (length (spec.listed problem.now.gens)) report.now }
+    requires { IsReportOn (length (summed_of problem.now.algebra)) (length (spec.listed problem.now.gens)) report.now }
     ensures value { IfOk result (λ output. output_of output ≡ spec.checked_form (reading_of problem.now) report.now) }
 {
     let generators = match checked_setup(alloc, problem) {

@@ -3,7 +3,6 @@ ghost use Rattle.std.specs.Prelude.{◌≡◌, [], ◌∷◌, ◌++◌, map, IfO
 ghost use Rattle.ct_answer.specs.Text.{operator_text};
 ghost use Rattle.ct_ore.specs.Naming.{actions_of};
 ghost use Rattle.ct_problem.specs.ReadProblem.{reading_of};
-ghost use Rattle.ct_problem.specs.WellFormed.{IsProblem};
 ghost use Rattle.ct_reduce.specs.Views.{reduction_of};
 ghost use Rattle.ct_run.specs.Output.{output_of};
 ghost use Rattle.ct_run.specs.Reducing as spec;
@@ -25,7 +24,6 @@ use std::alloc::Global;
 /// What is given out for a problem without `let` and `use` lines.
 #[tactic(auto, unfolding(crate::specs::Reducing::reduced))]
 pub(crate) fn answer_reduce(alloc: Global, problem: &Problem) -> Result<Output, NoMemory>
-    requires { IsProblem problem.now }
     ensures value { IfOk result (λ output. output_of output ≡ spec.reduced (reading_of problem.now)) }
 {
     match plain_setup(alloc, problem) {

@@ -3,7 +3,7 @@ ghost use Rattle.std.specs.Prelude.{◌≡◌, [], not};
 ghost use Rattle.ct_mono.specs.Checked.{AnswersBy};
 ghost use Rattle.ct_ore.specs.Naming.{actions_of};
 ghost use Rattle.ct_problem.specs.ReadProblem.{is_empty, is_used, reading_of};
-ghost use Rattle.ct_problem.specs.WellFormed.{Each, IsOperator, IsProblem};
+ghost use Rattle.ct_problem.specs.WellFormed.{Each, IsOperator};
 ghost use Rattle.ct_run.specs.Setup as spec;
 ghost use Rattle.ct_run.specs.Refusals.{Refuses, plain_of, refusal_of};
 
@@ -16,7 +16,6 @@ use std::alloc::Global;
 /// The generators of a problem without a `use` line, where its targets have values too.
 #[tactic(auto, unfolding(crate::specs::Setup::checked_setup))]
 pub(crate) fn checked_setup(alloc: Global, problem: &Problem) -> Result<Vec<Op>, Fault>
-    requires { IsProblem problem.now }
     ensures { AnswersBy (λ v. v.items) (spec.checked_setup (reading_of problem.now)) result }
 {
     let generators = values(alloc, &problem.algebra, listed(&problem.gens))?;
@@ -26,7 +25,6 @@ pub(crate) fn checked_setup(alloc: Global, problem: &Problem) -> Result<Vec<Op>,
 
 /// Whether there are `let` lines.
 pub(crate) fn has_lets(problem: &Problem) -> bool
-    requires { IsProblem problem.now }
     ensures { result ≡ not (is_empty (reading_of problem.now).definitions) }
 {
     !problem.lets.is_empty()
@@ -67,7 +65,6 @@ pub(crate) struct Plain {
 /// The generators and the targets of a problem without a `use` line.
 #[tactic(auto, unfolding(crate::specs::Setup::plain_setup))]
 pub(crate) fn plain_setup(alloc: Global, problem: &Problem) -> Result<Plain, Refusal>
-    requires { IsProblem problem.now }
     ensures { Refuses plain_of (spec.plain_setup (reading_of problem.now)) result }
 {
     let generators = plain_generators(alloc, &problem.algebra, listed(&problem.gens))?;

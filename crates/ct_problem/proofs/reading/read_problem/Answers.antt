@@ -7,19 +7,12 @@ use Rattle.ct_problem.specs.ReadProblem.{Gives, problem_of, reading_of}
 use Rattle.ct_problem.proofs.ProblemEnds.{end_within}
 use Rattle.ct_problem.proofs.SpelledTexts.{gives_spelled}
 use Rattle.ct_problem.proofs.TakenProblems.{gives_none}
-use Rattle.ct_problem.proofs.WellFormedProblems.{gives_problem}
 use Rattle.ct_problem.proofs.reading.read_problem.Goals as goal
 
 pub new-tokens-requires : goal.new-tokens-requires
 new-tokens-requires c =
     let same : c.in_ok-scan.scan.tokens.items ≡ (scan_of c.args.bytes.now 0).tokens = ap (λ (s : Scanned). s.tokens) c.in_ok-scan.ensures in
     rw (c.as_slice.ensures.value, same) (scans_are_tokens c.args.bytes.now 0)
-
-pub returns-clause-formed : goal.returns-clause-formed
-unfolding problem_of
-returns-clause-formed c =
-    let read : Gives (problem_of c.args.command c.args.bytes.now) c.problem.result = first_of (search rules, grind (arith, common_steps)) in
-    gives_problem c.args.command c.args.bytes.now c.problem.result read c.problem.ensures.a_name_each
 
 pub returns-clause-accepts : goal.returns-clause-accepts
 unfolding problem_of
