@@ -40,7 +40,7 @@ pub(crate) fn differences(alloc: Global, algebra: &Algebra, parts: &[Part]) -> R
     let mut sum = Op::zero(alloc);
     let mut rest = parts;
     while let Some((part, more)) = rest.split_first() {
-        sum = with_difference(alloc, algebra, &sum, part)?;
+        sum = with_difference(alloc, algebra, sum, part)?;
         rest = more;
     }
     Ok(sum)
@@ -65,7 +65,7 @@ pub(crate) fn with_products(
             return Ok(sum);
         };
         let product = cofactor.mul(alloc, algebra, generator)?;
-        sum = sum.add(alloc, &product)?;
+        sum = sum.into_sum(alloc, product)?;
         left = more;
         right = others;
     }
@@ -168,15 +168,15 @@ fn numerator(alloc: Global, algebra: &Algebra, part: &Part) -> Result<Op, Fault>
     let first = multiple(alloc, algebra, &part.denominator, &before)?;
     let coefficient = coefficient(alloc, algebra, part)?;
     let second = multiple(alloc, algebra, &coefficient, &part.numerator)?;
-    first.sub(alloc, &second)
+    first.into_difference(alloc, &second)
 }
 
 #[tactic(auto, unfolding(crate::specs::Arithmetic::with_difference))]
-fn with_difference(alloc: Global, algebra: &Algebra, sum: &Op, part: &Part) -> Result<Op, Fault>
+fn with_difference(alloc: Global, algebra: &Algebra, sum: Op, part: &Part) -> Result<Op, Fault>
     requires { IsNamed algebra.now part.now }
-    ensures { Answers (with_difference (actions_of algebra.now) sum.now (summand_of part.now)) result }
+    ensures { Answers (with_difference (actions_of algebra.now) sum (summand_of part.now)) result }
 {
     let numerator = numerator(alloc, algebra, part)?;
     let product = multiple(alloc, algebra, &part.part, &numerator)?;
-    sum.add(alloc, &product)
+    sum.into_sum(alloc, product)
 }

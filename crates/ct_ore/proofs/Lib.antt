@@ -4,7 +4,8 @@ pub mod Gathering
 pub mod WrittenOperators
 pub mod OperatorMeasures
 pub mod MergeSteps
-pub mod SumRules
+pub mod AddingSteps
+pub mod OperatorSums
 pub mod SortedSums
 pub mod PairWeightLaws
 pub mod ChangedExponents

@@ -1,6 +1,6 @@
 -- Multiples of operators by whole numbers: a multiple of a multiple, and of a sum, and of the quotient by the same number.
 -- Main lemmas `scaled_twice`, `scaled-sum` and `scaled_quotient`.
-use Rattle.std.proofs.Common.{◌≡◌, ℕ, ◌*◌, ℤ, pos, ◌*ℤ◌, List, [], ◌∷◌, map, sym, ◌∙◌, ap, ap₂}
+use Rattle.std.proofs.Common.{◌≡◌, ℕ, ◌*◌, pos, ◌*ℤ◌, List, [], ◌∷◌, map, sym, ◌∙◌, ap, ap₂}
 use Rattle.ct_algebra.specs.Monomial.{Mono, unit, ·-unit}
 use Rattle.ct_algebra.specs.Names.{Name}
 use Rattle.ct_algebra.specs.Actions.{Action}

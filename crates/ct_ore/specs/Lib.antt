@@ -1,5 +1,6 @@
 pub mod Naming
 pub mod Terms
+pub mod TermSums
 pub mod CoefficientTerms
 pub mod PairWeights
 pub mod Measures

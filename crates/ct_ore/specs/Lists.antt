@@ -6,8 +6,8 @@
 --     IsMerging            what is done and what is left of two lists that are merged
 --     IsFront ts n         the first n terms are in written form by themselves, and one is where there are any
 --     IsSum                a list in written form with the sum of another, no longer and no larger; IsSorted  its terms bounded alike
-use Rattle.std.specs.Prelude.{◌≡◌, ◌≢◌, ℕ, ◌+◌, ◌≤◌, min, ltb, neg_ℤ, None, List, [], ◌∷◌, ◌++◌, length, take, drop}
-use Rattle.std.proofs.Common.{Option, Less}
+use Rattle.std.specs.Prelude.{◌≡◌, ◌≢◌, ℕ, ◌+◌, ◌≤◌, min, List, [], ◌∷◌, ◌++◌, length, take, drop}
+use Rattle.std.proofs.Common.{Less}
 use Rattle.ct_algebra.specs.Monomial.{Mono}
 use Rattle.ct_algebra.specs.Terms.{merged}
 use Rattle.ct_algebra.specs.Operators.{Operator}
@@ -15,9 +15,6 @@ use Rattle.ct_algebra.specs.Polynomial.{Polynomial}
 use Rattle.ct_algebra.specs.WholeNumbers.{int_group}
 use Rattle.ct_algebra.proofs.Merging as merging
 use Rattle.ct_mono.specs.Limits.{most_terms, largest_norm}
-use Rattle.ct_mono.specs.declared.fault.Kind.{Kind}
-use Rattle.ct_mono.specs.declared.fault.Kind.TheVariants.{Terms, Number}
-use Rattle.ct_poly.specs.Measures.{broken}
 use Rattle.ct_poly.specs.declared.term.Term.{Term}
 use Rattle.ct_poly.specs.Terms.{entries}
 use Rattle.ct_ore.specs.declared.coefficient_term.CoefficientTerm.{CoefficientTerm}
@@ -93,9 +90,6 @@ pub record IsSorted (ts us : List CoefficientTerm) : Type 0 where
   pub sum : IsSum ts us
   pub within : (b d : ℕ) → EachWithin b d ts → EachWithin b d us
 
-abbrev pub opposite : CoefficientTerm → CoefficientTerm
-opposite t = record { symbols = t.symbols; names = t.names; number = neg_ℤ t.number }
-
 -- the coefficient terms of an operator within the limits
 pub record IsPartsOf (p : Operator) (ts : List CoefficientTerm) : Type 0 where
   pub list : ts ≡ coefficient_terms p
@@ -110,8 +104,3 @@ pub record IsMerged (ps qs v : List CoefficientTerm) : Type 0 where
   pub terms : keyed v ≡ merged by_parts int_group (keyed ps) (keyed qs)
   pub few : length v ≤ length ps + length qs
   pub small : size_of v ≤ size_of ps + size_of qs
-
--- the rule of sums, read off the lists
-abbrev pub list_overflow : List CoefficientTerm → List CoefficientTerm → Option Kind
-list_overflow ps qs =
-    broken (ltb most_terms (length ps + length qs)) Terms (broken (ltb largest_norm (size_of ps + size_of qs)) Number None)

@@ -1,10 +1,11 @@
 // Operators as lists of coefficient terms, and back.
 ghost use Rattle.std.specs.Prelude.{◌≡◌, ◌≤◌, ◌++◌, IfOk, length, map, take};
-ghost use Rattle.ct_mono.specs.Limits.{most_terms};
+ghost use Rattle.ct_mono.specs.Limits.{most_terms, largest_norm};
 ghost use Rattle.ct_poly.specs.Terms.{entries};
 ghost use Rattle.ct_ore.specs.Terms.{op_entries};
 ghost use Rattle.ct_ore.specs.CoefficientTerms.{sum_of_parts, IsWritten};
 ghost use Rattle.ct_ore.specs.Measures.{row_of, all_terms};
+ghost use Rattle.ct_ore.specs.TermSums.{entries_norm};
 ghost use Rattle.ct_ore.specs.Lists.{Fits, AllHave, IsRun, IsRunLength, without_symbols};
 
 use crate::coefficient_term::CoefficientTerm;
@@ -26,6 +27,20 @@ pub fn term_count(ops: &[OpTerm]) -> usize
         rest = more;
     }
     count
+}
+
+// The sum of the absolute values in all coefficients.
+pub fn term_norm(ops: &[OpTerm]) -> u128
+    requires { entries_norm (op_entries ops.now) ≤ largest_norm }
+    ensures { result ≡ entries_norm (op_entries ops.now) }
+{
+    let mut sum = 0;
+    let mut rest = ops;
+    'adding: while let Some((op, more)) = rest.split_first() {
+        sum += op.coef.norm();
+        rest = more;
+    }
+    sum
 }
 
 // The terms of all coefficients.

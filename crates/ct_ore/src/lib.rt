@@ -13,10 +13,12 @@ mod coefficient_term;
 mod coefficients;
 mod degrees;
 mod measures;
+mod merging;
 mod op;
 mod product;
 mod scaling;
 mod sum;
+mod terms;
 #[cfg(test)]
 mod tests;
 mod ways;

@@ -10,15 +10,16 @@ ghost use Rattle.ct_ore.specs.Terms.{op_entries, operator_of_terms, IsOperator};
 ghost use Rattle.ct_ore.specs.CoefficientTerms.{sum_of_parts};
 ghost use Rattle.ct_ore.specs.Lists.{Fits, IsPartsOf};
 ghost use Rattle.ct_ore.specs.Naming.{actions_of};
-ghost use Rattle.ct_ore.specs.Measures.{term_count, term_norm, checked_sum, checked_difference, checked_product, checked_combination};
+ghost use Rattle.ct_ore.specs.Measures.{term_count, term_norm, sum_overflow, checked_sum, checked_difference, checked_product, checked_combination};
 
 use crate::algebra::Algebra;
 use crate::coefficient_term::CoefficientTerm;
-use crate::coefficients::{gathered, parts_of};
+use crate::coefficients::{gathered, parts_of, term_count, term_norm};
 use crate::measures::product_overflow;
+use crate::merging::merged_terms;
 use crate::product::product_by_halves;
-use crate::sum::{opposites, written_sum};
-use ct_mono::{Fault, Monomial, NoMemory};
+use crate::terms::{copied, negated};
+use ct_mono::{Fault, Kind, LARGEST_NORM, MOST_TERMS, Monomial, NoMemory};
 use ct_poly::Poly;
 use std::alloc::Global;
 use std::marker::Model;
@@ -111,9 +112,8 @@ impl Op {
     pub fn copy(&self, alloc: Global) -> Result<Op, NoMemory>
         ensures value { IfOk result (λ r. r ≡ self.now) }
     {
-        let parts = self.parts(alloc)?;
-        let r = Op::of_parts(alloc, parts.as_slice())?;
-        Ok(r)
+        let terms = copied(alloc, self.terms.as_slice())?;
+        Ok(Op { terms })
     }
 
     // Each operator is within the limits.
@@ -151,21 +151,54 @@ impl Op {
         Ok(Op { terms })
     }
 
+    // The kind in which a sum or a difference overflows, or `None` where it fits.
+    fn fits_sum(&self, other: &Op) -> Option<Kind>
+        ensures { result ≡ sum_overflow self.now other.now }
+    {
+        self.within_limits();
+        other.within_limits();
+        if term_count(self.terms()) + term_count(other.terms()) > MOST_TERMS {
+            return Some(Kind::Terms);
+        }
+        if term_norm(self.terms()) + term_norm(other.terms()) > LARGEST_NORM {
+            return Some(Kind::Number);
+        }
+        None
+    }
+
     pub fn add(&self, alloc: Global, other: &Op) -> Result<Op, Fault>
         ensures { Answers (checked_sum self.now other.now) result }
     {
-        let mine = self.parts(alloc)?;
-        let its = other.parts(alloc)?;
-        written_sum(alloc, mine.as_slice(), its.as_slice())
+        self.copy(alloc)?.into_sum(alloc, other.copy(alloc)?)
     }
 
     pub fn sub(&self, alloc: Global, other: &Op) -> Result<Op, Fault>
         ensures { Answers (checked_difference self.now other.now) result }
     {
-        let mine = self.parts(alloc)?;
-        let its = other.parts(alloc)?;
-        let opposite = opposites(alloc, its.as_slice())?;
-        written_sum(alloc, mine.as_slice(), opposite.as_slice())
+        self.copy(alloc)?.into_difference(alloc, other)
+    }
+
+    /// The sum, of two operators that are no longer needed.
+    pub fn into_sum(self, alloc: Global, other: Op) -> Result<Op, Fault>
+        ensures { Answers (checked_sum self other) result }
+    {
+        if let Some(kind) = self.fits_sum(&other) {
+            return Err(Fault::Overflow(kind));
+        }
+        let terms = merged_terms(alloc, self.terms, other.terms)?;
+        Ok(Op { terms })
+    }
+
+    /// The difference, from an operator that is no longer needed.
+    pub fn into_difference(self, alloc: Global, other: &Op) -> Result<Op, Fault>
+        ensures { Answers (checked_difference self other.now) result }
+    {
+        if let Some(kind) = self.fits_sum(other) {
+            return Err(Fault::Overflow(kind));
+        }
+        let opposite = negated(alloc, other.terms())?;
+        let terms = merged_terms(alloc, self.terms, opposite)?;
+        Ok(Op { terms })
     }
 
     /// The left product: the operator that acts as `other` and then as `self`.
@@ -211,7 +244,7 @@ impl Op {
                 return Ok(sum);
             };
             let product = c.mul(alloc, algebra, g)?;
-            sum = sum.add(alloc, &product)?;
+            sum = sum.into_sum(alloc, product)?;
             left = cofactors_rest;
             right = generators_rest;
         }

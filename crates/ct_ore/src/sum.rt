@@ -1,38 +1,14 @@
 // Sums of lists of coefficient terms in written form.
-ghost use Rattle.std.specs.Prelude.{◌≡◌, ◌+◌, ◌<◌, ◌≤◌, ◌+ℤ◌, IfOk, unsigned_abs, map, length, take};
-ghost use Rattle.ct_algebra.specs.Operators.{sum_of_operators};
-ghost use Rattle.ct_mono.specs.Checked.{Answers, verdict};
+ghost use Rattle.std.specs.Prelude.{◌≡◌, ◌+◌, ◌<◌, ◌≤◌, ◌+ℤ◌, IfOk, unsigned_abs, length, take};
 ghost use Rattle.ct_mono.specs.Limits.{largest_norm};
-ghost use Rattle.ct_ore.specs.CoefficientTerms.{key, pair_cmp, size_of, sum_of_parts, IsWritten};
+ghost use Rattle.ct_ore.specs.CoefficientTerms.{key, pair_cmp, size_of, IsWritten};
 ghost use Rattle.ct_ore.specs.PairMeasures.{HasNumbers};
-ghost use Rattle.ct_ore.specs.Lists.{Fits, CanMerge, AllBefore, IsBefore, IsMerged, IsFront, IsSorted, opposite, list_overflow};
+ghost use Rattle.ct_ore.specs.Lists.{CanMerge, AllBefore, IsBefore, IsMerged, IsFront, IsSorted};
 
 use crate::coefficient_term::CoefficientTerm;
-use crate::op::Op;
-use ct_mono::{Fault, Kind, LARGEST_NORM, MOST_TERMS, NoMemory};
+use ct_mono::NoMemory;
 use std::alloc::Global;
 use std::cmp::Ordering;
-
-// The sum of two lists, judged by their measures.
-pub fn written_sum(
-    alloc: Global,
-    ps: &[CoefficientTerm],
-    qs: &[CoefficientTerm],
-) -> Result<Op, Fault>
-    requires first { Fits ps.now }
-    requires second { Fits qs.now }
-    ensures { Answers (verdict (list_overflow ps.now qs.now) (sum_of_operators (sum_of_parts ps.now) (sum_of_parts qs.now))) result }
-{
-    if ps.len() + qs.len() > MOST_TERMS {
-        return Err(Fault::Overflow(Kind::Terms));
-    }
-    if size_of_parts(ps) + size_of_parts(qs) > LARGEST_NORM {
-        return Err(Fault::Overflow(Kind::Number));
-    }
-    let terms = merge(alloc, ps, qs)?;
-    let sum = Op::of_parts(alloc, terms.as_slice())?;
-    Ok(sum)
-}
 
 // The sum of the absolute values.
 pub fn size_of_parts(ts: &[CoefficientTerm]) -> u128
@@ -44,23 +20,6 @@ pub fn size_of_parts(ts: &[CoefficientTerm]) -> u128
         sum += t.number.unsigned_abs();
     }
     sum
-}
-
-// All terms with the opposite numbers.
-pub fn opposites(alloc: Global, ts: &[CoefficientTerm]) -> Result<Vec<CoefficientTerm>, NoMemory>
-    requires { size_of ts.now ≤ largest_norm }
-    ensures { IfOk result (λ v. v.items ≡ map opposite ts.now) }
-{
-    let mut out = Vec::new(alloc);
-    for t in ts {
-        let number = -t.number;
-        out.push(CoefficientTerm {
-            symbols: t.symbols,
-            names: t.names,
-            number,
-        })?;
-    }
-    Ok(out)
 }
 
 // Both lists as one, terms at the same key added.

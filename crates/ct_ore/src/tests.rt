@@ -102,6 +102,10 @@ fn sums_add_numbers_at_one_key(rt: HostRuntime) -> Result<(), Fail> {
     assert!(rt; is_listed(&sum, &[(1, 0, 0, 0, 1), (0, 0, 1, 0, 2), (0, 0, 0, 0, 2)]));
     let left = sum.sub(rt.alloc(), &shift)?;
     assert!(rt; is_listed(&left, &[(0, 0, 1, 0, 2), (0, 0, 0, 0, 2)]));
+    let again = first.into_sum(rt.alloc(), second)?;
+    assert!(rt; is_listed(&again, &[(1, 0, 0, 0, 1), (0, 0, 1, 0, 2), (0, 0, 0, 0, 2)]));
+    let symbol = again.into_difference(rt.alloc(), &left)?;
+    assert!(rt; is_listed(&symbol, &[(1, 0, 0, 0, 1)]));
     Ok(())
 }
 

@@ -1,5 +1,5 @@
 -- From the list that an operation has made to the polynomial that it answers: what the type asks of the list, and the
--- value. Main lemmas `list_is_kept`, `term_is_kept`, `sum_answers`, `difference_answers` and `product_answers`, which the
+-- value. Main lemmas `list_is_kept`, `term_is_kept`, `sum_is`, `difference_answers` and `product_answers`, which the
 -- methods of `Poly` cite.
 use Rattle.std.proofs.Common.{◌≡◌, refl, ℕ, ◌+◌, ◌*◌, ◌^◌, ◌≤◌, ◌<◌, ℤ, pos, zero, suc, nat_abs, List, [], ◌∷◌, length, sum_by, sym, ◌∙◌, ap, ap₂, subst, arith, None, Ok, Err, mul-pos, ◌⊎◌, inl, inr}
 use Rattle.std.proofs.Math.Nat.{pow-zero, pow-succ'}
@@ -17,7 +17,7 @@ use Rattle.ct_mono.specs.Limits.{most_terms, largest_norm}
 use Rattle.ct_poly.specs.declared.term.Term.{Term}
 use Rattle.ct_mono.specs.Checked.{verdict, verdict_fits, verdict_refuses}
 use Rattle.ct_poly.specs.Terms.{size_of, IsFalling, IsListOf, CanMultiply, poly_of_terms, derivative_size, shift_size, shift_length}
-use Rattle.ct_poly.specs.Measures.{minus, sum_overflow, product_overflow, checked_plus, checked_minus, checked_times, derivative_norm, checked_derived, shifted, shift_norm, shift_count, shift_overflow, checked_shifted}
+use Rattle.ct_poly.specs.Measures.{minus, sum_overflow, product_overflow, checked_minus, checked_times, derivative_norm, checked_derived, shifted, shift_norm, shift_count, shift_overflow, checked_shifted}
 use Rattle.ct_poly.proofs.OverflowRules.{ProductFits, sum_fits_only, product_fits_only, product_with_zero, derivative_too_large, derivative_fits, shift_too_many, shift_too_large, shift_fits, shift_by_none_fits}
 use Rattle.ct_poly.proofs.ShiftValues.{shifted_by_none}
 use Rattle.ct_poly.proofs.TermLists.{count_of-terms, norm_of-terms, degree_of-terms, degree_of-falling, poly_of-one, terms_of, sum_by-entries, place-name_with, nonzero_coef}
@@ -78,13 +78,12 @@ module _ {p q : Polynomial} (ps qs : List Term) (mine : IsKept p ps) (its : IsKe
   pub sum_small : None ≡ sum_overflow p q → size_of ps + size_of qs ≤ largest_norm
   sum_small none = omega (arith, norms.0, norms.1, (sum_fits_only p q (sym none)).small)
 
-  module _ (v : List Term) (sum : IsListOf (plus (poly_of_terms ps) (poly_of_terms qs)) (length ps + length qs) (size_of ps + size_of qs) v) (none : None ≡ sum_overflow p q) where
-    pub sum_is_kept : IsFalling v × (length v ≤ most_terms) × (size_of v ≤ largest_norm)
-    sum_is_kept = list_is_kept v sum (omega (arith, counts.0, counts.1, (sum_fits_only p q (sym none)).few)) (sum_small none)
+  module _ (v : List Term) (sum : IsListOf (plus (poly_of_terms ps) (poly_of_terms qs)) (length ps + length qs) (size_of ps + size_of qs) v) where
+    pub sum_is_kept : None ≡ sum_overflow p q → IsFalling v × (length v ≤ most_terms) × (size_of v ≤ largest_norm)
+    sum_is_kept none = list_is_kept v sum (omega (arith, counts.0, counts.1, (sum_fits_only p q (sym none)).few)) (sum_small none)
 
-    pub sum_answers : checked_plus p q ≡ Ok (poly_of_terms v)
-    unfolding checked_plus
-    sum_answers = verdict_fits _ _ _ (sym none) (sym (sum.value ∙ ap₂ plus mine.value its.value))
+    pub sum_is : poly_of_terms v ≡ plus p q
+    sum_is = sum.value ∙ ap₂ plus mine.value its.value
 
   -- ---- differences, where ns lists the negative of q
 

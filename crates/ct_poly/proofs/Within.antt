@@ -1,5 +1,5 @@
 -- Results are within the measures of their operands: main lemmas `sums_within`, `products_within`, `shifts_within` and
--- `derivatives_within`, which the laws cite.
+-- `derivatives_within`, which the laws cite, and `negatives_within`.
 -- Inserting a term adds at most one term and its absolute value; products and shifts are sums over the terms.
 use Rattle.std.proofs.Common.{◌≡◌, refl, ℕ, zero, suc, ◌+◌, ◌*◌, ◌^◌, ◌≤◌, ◌<◌, ℤ, pos, ◌+ℤ◌, nat_abs, List, [], ◌∷◌, length, sum_by, sym, ◌∙◌, ap, ap₂, subst, arith, Bool, true, false, cond, T, Ordering, Less, Equal, Greater, mul-le-mul_left, mul-le-mul_right}
 use Rattle.std.proofs.Math.Nat.{pow-succ', pow-zero}
@@ -23,6 +23,7 @@ use Rattle.ct_poly.specs.declared.term.Term.{Term}
 use Rattle.ct_poly.specs.Measures.{shifted, shift_count, shift_norm, derivative_norm}
 use Rattle.ct_poly.specs.Terms.{entries, shift_size, shift_length, IsFalling, poly_of_terms}
 use Rattle.ct_poly.proofs.Derivatives.{derivative, derivative_is}
+use Rattle.ct_poly.proofs.Negatives.{negative, negative_is}
 use Rattle.ct_poly.proofs.Termwise.{made_of}
 use Rattle.ct_poly.proofs.TermLists.{norm_of-terms, count_of-terms, sum_by-entries, rebuilt, poly_of-single, terms-multiple, abs_sum, norm_of-row, length-row, place-name_with, no_terms, poly_of-cons}
 
@@ -144,16 +145,34 @@ entries-term_list (e ∷ es) = ap (λ fs. (e.0, e.1) ∷ fs) (entries-term_list 
 place-of_place : (i : Name) → name_with (place i) ≡ i
 place-of_place i = same_place _ i (place-name_with (place i) (place_small i))
 
+term_list-falling : (p : Polynomial) → IsFalling (term_list p.terms)
+term_list-falling p = subst (IsCanonical monomials int_group) (sym (entries-term_list p.terms)) p.canonical
+
+term_list-value : (p : Polynomial) → poly_of_terms (term_list p.terms) ≡ p
+unfolding poly_of_terms
+term_list-value p = ap poly_of (entries-term_list p.terms) ∙ rebuilt p
+
 pub derivatives_within : (i : Name) (p : Polynomial) → (count (derived i p) ≤ count p) × (norm (derived i p) ≤ derivative_norm i p)
-unfolding derivative_norm poly_of_terms
+unfolding derivative_norm
 derivatives_within i p =
     let ts = term_list p.terms in
-    let falling : IsFalling ts = subst (IsCanonical monomials int_group) (sym (entries-term_list p.terms)) p.canonical in
-    let value : poly_of_terms ts ≡ p = ap poly_of (entries-term_list p.terms) ∙ rebuilt p in
+    let falling = term_list-falling p in
+    let value = term_list-value p in
     let list = derivative_is (place i) (place_small i) ts (made_of (derivative (place i)) ts) falling refl in
     let derives : poly_of_terms (made_of (derivative (place i)) ts) ≡ derived i p = list.value ∙ ap₂ derived (place-of_place i) value in (
       omega (arith, count_of-terms (made_of (derivative (place i)) ts) list.falling derives, list.few, count_of-terms ts falling value),
       omega (arith, norm_of-terms (made_of (derivative (place i)) ts) list.falling derives, list.small, sum_by-entries (λ e. nat_abs e.1 * exp e.0 (place i)) ts, ap (sum_by (λ e. nat_abs e.1 * exp e.0 (place i))) (entries-term_list p.terms)),
+    )
+
+pub negatives_within : (p : Polynomial) → (count (polys.neg p) ≤ count p) × (norm (polys.neg p) ≤ norm p)
+negatives_within p =
+    let ts = term_list p.terms in
+    let falling = term_list-falling p in
+    let value = term_list-value p in
+    let list = negative_is ts (made_of negative ts) falling refl in
+    let negates : poly_of_terms (made_of negative ts) ≡ polys.neg p = list.value ∙ ap polys.neg value in (
+      omega (arith, count_of-terms (made_of negative ts) list.falling negates, list.few, count_of-terms ts falling value),
+      omega (arith, norm_of-terms (made_of negative ts) list.falling negates, list.small, norm_of-terms ts falling value),
     )
 
 pub term_within : (m : Mono) (c : ℤ) → (count (term m c) ≤ 1) × (norm (term m c) ≤ nat_abs c)

@@ -1,8 +1,8 @@
 // Polynomials: lists of terms with falling monomials and no zero coefficient.
-ghost use Rattle.std.specs.Prelude.{◌≡◌, ◌+◌, ◌*◌, ◌<◌, ◌≤◌, ◌≤ℤ◌, ◌↔◌, IfOk, IsTrue, false, pos, negsuc, unsigned_abs, length};
+ghost use Rattle.std.specs.Prelude.{◌≡◌, ◌+◌, ◌*◌, ◌<◌, ◌≤◌, ◌≤ℤ◌, ◌↔◌, IfOk, IsTrue, None, false, pos, negsuc, unsigned_abs, length};
 ghost use Rattle.ct_algebra.specs.FreeOf.{IsFreeOf};
 ghost use Rattle.ct_algebra.specs.Names.{name_with};
-ghost use Rattle.ct_algebra.specs.Polynomial.{polys, count, norm};
+ghost use Rattle.ct_algebra.specs.Polynomial.{polys, plus, count, norm};
 ghost use Rattle.ct_algebra.specs.Substitution.{term, number, name};
 ghost use Rattle.ct_mono.specs.Checked.{Answers};
 ghost use Rattle.ct_mono.specs.Limits.{most_terms, largest_norm};
@@ -179,14 +179,22 @@ impl Poly {
         None
     }
 
+    /// The sum of two polynomials that are known to leave room for it.
+    pub fn plus(&self, alloc: Global, other: &Poly) -> Result<Poly, NoMemory>
+        requires { sum_overflow self.now other.now ≡ None }
+        ensures value { IfOk result (λ p. p ≡ plus self.now other.now) }
+    {
+        let terms = sum_of_terms(alloc, self.terms.as_slice(), other.terms.as_slice())?;
+        Ok(Poly { terms })
+    }
+
     pub fn add(&self, alloc: Global, other: &Poly) -> Result<Poly, Fault>
         ensures { Answers (checked_plus self.now other.now) result }
     {
         if let Some(kind) = self.fits_sum(other) {
             return Err(Fault::Overflow(kind));
         }
-        let terms = sum_of_terms(alloc, self.terms.as_slice(), other.terms.as_slice())?;
-        Ok(Poly { terms })
+        Ok(self.plus(alloc, other)?)
     }
 
     pub fn sub(&self, alloc: Global, other: &Poly) -> Result<Poly, Fault>

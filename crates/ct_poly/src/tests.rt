@@ -63,6 +63,10 @@ fn opposite_terms_vanish(rt: HostRuntime) -> Result<(), Fail> {
     let p = falling_pair(rt.alloc())?;
     let negative = p.neg(rt.alloc())?;
     assert!(rt; p.add(rt.alloc(), &negative)?.is_zero());
+    match p.fits_sum(&negative) {
+        None => assert!(rt; p.plus(rt.alloc(), &negative)?.is_zero()),
+        Some(kind) => assert_eq!(rt; Some(kind), None),
+    }
     assert!(rt; p.copy(rt.alloc())?.same(&p));
     assert!(rt; !negative.same(&p));
     Ok(())

@@ -68,7 +68,7 @@ impl Value {
     pub fn negated(self, alloc: Global) -> Result<Value, Fault>
         ensures { Answers (negated self) result }
     {
-        let operator = Op::zero(alloc).sub(alloc, &self.operator)?;
+        let operator = Op::zero(alloc).into_difference(alloc, &self.operator)?;
         Ok(Value {
             operator,
             whole: self.whole,
@@ -80,7 +80,7 @@ impl Value {
         ensures { Answers (checked_plus (actions_of algebra.now) self other) result }
     {
         let both = self.cleared(alloc, algebra, other)?;
-        let sum = both.mine.add(alloc, &both.its)?;
+        let sum = both.mine.into_sum(alloc, both.its)?;
         let value = Value::lowest(alloc, sum, both.whole)?;
         Ok(value)
     }
@@ -90,7 +90,7 @@ impl Value {
         ensures { Answers (checked_minus (actions_of algebra.now) self other) result }
     {
         let both = self.cleared(alloc, algebra, other)?;
-        let difference = both.mine.sub(alloc, &both.its)?;
+        let difference = both.mine.into_difference(alloc, &both.its)?;
         let value = Value::lowest(alloc, difference, both.whole)?;
         Ok(value)
     }

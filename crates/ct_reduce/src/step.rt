@@ -14,6 +14,7 @@ use ct_mono::{Fault, NoMemory};
 use ct_ore::{Algebra, Op};
 use ct_poly::Poly;
 use std::alloc::Global;
+use std::mem::replace;
 
 // What a step does: the factor of the whole reduction, and the part of a generator that is taken.
 #[derive(Drop)]
@@ -151,10 +152,10 @@ pub(crate) fn taken(
     ensures { AnswersBy reduction_of (checked_taken (actions_of algebra.now) (step_of step.now) (reduction_of s)) result }
 {
     let product = step.part.mul(alloc, algebra, step.generator)?;
-    let rest = s.rest.sub(alloc, &product)?;
+    let rest = s.rest.into_difference(alloc, &product)?;
     let mut cofactors = s.cofactors;
-    let cofactor = cofactors[step.place].add(alloc, &step.part)?;
-    cofactors[step.place] = cofactor;
+    let cofactor = replace(&mut cofactors[step.place], Op::zero(alloc));
+    cofactors[step.place] = cofactor.into_sum(alloc, step.part.copy(alloc)?)?;
     Ok(Reduced {
         scale: s.scale,
         cofactors,
