@@ -12,6 +12,8 @@ mod values;
 use crate::{BadInput, BadKind, ReadFault, read_problem};
 use ct_io::Command;
 use std::alloc::{AllocError, Global};
+use std::process::Abort;
+use std::test::Fail;
 
 /// A problem with a line of each kind.
 const FULL: &str =
@@ -28,4 +30,21 @@ fn fault_of(alloc: Global, text: &[u8], command: Command) -> Result<Option<BadIn
 
 fn fault(kind: BadKind, offset: usize) -> Option<BadInput> {
     Some(BadInput { kind, offset })
+}
+
+/// Compares the first fault of `FULL`, with one text in place of another, with the one that is wanted.
+fn each_has_its_fault(
+    rt: &impl Abort,
+    alloc: Global,
+    cases: &[(&str, &str, Option<BadInput>)],
+) -> Result<(), Fail> {
+    for (old, new, wanted) in cases {
+        let text = FULL.replace(alloc, old, new)?;
+        assert_eq!(rt;
+            fault_of(alloc, text.as_bytes(), Command::Telescope)?,
+            *wanted,
+            "{old} to {new}"
+        );
+    }
+    Ok(())
 }

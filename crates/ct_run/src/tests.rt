@@ -3,8 +3,10 @@ use crate::{MemSink, MemSource, NoGate, NoMemory, Status, run};
 use std::alloc::Global;
 use std::test::Fail;
 
+mod faults;
 mod reductions;
 mod rows;
+mod sizes;
 
 const TEXT: &[u8] = b"no problem\n";
 

@@ -1,106 +1,104 @@
 // Faults of bytes, of tokens and of too many lines, at the places where they show.
 
 use crate::BadKind;
-use crate::tests::{FULL, fault, fault_of};
+use crate::tests::{FULL, each_has_its_fault, fault, fault_of};
 use ct_io::Command;
 use std::test::Fail;
 
 #[test]
 fn bytes_and_ends_are_judged_by_lines(rt: HostRuntime) -> Result<(), Fail> {
     let cases = [
-        ("sum k", "sum \u{7f}k", BadKind::BadByte, 33),
-        ("sum k\n", "sum\r k\n", BadKind::BadByte, 32),
+        ("sum k", "sum \u{7f}k", fault(BadKind::BadByte, 33)),
+        ("sum k\n", "sum\r k\n", fault(BadKind::BadByte, 32)),
         (
             "gen S[n] - 1\n",
             "gen S[n] - 1 \u{1}\n",
-            BadKind::BadByte,
-            143,
+            fault(BadKind::BadByte, 143),
         ),
-        ("k + 1", "k + \r1", BadKind::BadByte, 167),
-        ("order 0..2\n", "order 0..x\u{2}\n", BadKind::BadByte, 200),
-        ("end\n", "end\n\u{1}\n", BadKind::BadByte, 217),
-        ("end\n", "end \u{1}\n", BadKind::BadByte, 217),
-        (FULL, "", BadKind::Unfinished, 0),
+        ("k + 1", "k + \r1", fault(BadKind::BadByte, 167)),
+        (
+            "order 0..2\n",
+            "order 0..x\u{2}\n",
+            fault(BadKind::BadByte, 200),
+        ),
+        ("end\n", "end\n\u{1}\n", fault(BadKind::BadByte, 217)),
+        ("end\n", "end \u{1}\n", fault(BadKind::BadByte, 217)),
+        (FULL, "", fault(BadKind::Unfinished, 0)),
         (
             "order 0..2\ndegree 1..3\nend\n",
             "order 0..",
-            BadKind::Unfinished,
-            199,
+            fault(BadKind::Unfinished, 199),
         ),
         (
             "free n shift\nsum k\nint u\nparam a\nlet f = gens S[n] - 1; S[k] - 1; D[u] - 1\nlet g = plus f f\nlet h = apply g: S[n]\ngen S[n] - 1\ngen S[k] - a\nden k: k + 1\nden u: u\ntarget S[k]\norder 0..2\ndegree 1..3\nend\n",
             "free n",
-            BadKind::Unfinished,
-            22,
+            fault(BadKind::Unfinished, 22),
         ),
-        ("end\n", "", BadKind::Unfinished, 213),
+        ("end\n", "", fault(BadKind::Unfinished, 213)),
         (
             "degree 1..3\nend\n",
             "degree 1..3",
-            BadKind::Unfinished,
-            212,
+            fault(BadKind::Unfinished, 212),
         ),
     ];
-    for (old, new, kind, offset) in cases {
-        let text = FULL.replace(rt.alloc(), old, new)?;
-        assert_eq!(rt;
-            fault_of(rt.alloc(), text.as_bytes(), Command::Telescope)?,
-            fault(kind, offset),
-            "{old} to {new}"
-        );
-    }
-    Ok(())
+    each_has_its_fault(&rt, rt.alloc(), &cases)
 }
 
 #[test]
 fn tokens_stand_as_they_must(rt: HostRuntime) -> Result<(), Fail> {
     let cases = [
-        ("end\n", "target", BadKind::Syntax, 213),
-        ("mgfun problem 1", "mgfun report 1", BadKind::Syntax, 6),
-        ("mgfun problem 1", "mgfun problem 2", BadKind::Syntax, 14),
+        ("end\n", "target", fault(BadKind::Syntax, 213)),
+        (
+            "mgfun problem 1",
+            "mgfun report 1",
+            fault(BadKind::Syntax, 6),
+        ),
+        (
+            "mgfun problem 1",
+            "mgfun problem 2",
+            fault(BadKind::Syntax, 14),
+        ),
         (
             "problem 1",
             "problem 170141183460469231731687303715884105728",
-            BadKind::Syntax,
-            14,
+            fault(BadKind::Syntax, 14),
         ),
-        ("shift", "still", BadKind::Syntax, 23),
-        ("free n", "free 2", BadKind::Syntax, 21),
-        ("sum k\n", "sum k k\n", BadKind::Syntax, 35),
-        ("sum k\n", "sum k\nmgfun problem 1\n", BadKind::Syntax, 35),
-        ("S[n] - 1\ngen", "S(n) - 1\ngen", BadKind::Syntax, 135),
-        ("gen S[n] - 1", "gen S - 1", BadKind::Syntax, 136),
-        ("plus f f", "plus f", BadKind::Syntax, 105),
-        ("plus f f", "times f f", BadKind::Syntax, 99),
-        ("apply g: S[n]", "apply g S[n]", BadKind::Syntax, 124),
-        ("gen S[n] - 1", "gen n n", BadKind::Syntax, 136),
-        ("gen S[n] - 1", "gen ()", BadKind::Syntax, 135),
-        ("gen S[n] - 1", "gen (n", BadKind::Syntax, 136),
-        ("gen S[n] - 1", "gen +n", BadKind::Syntax, 134),
-        ("gen S[n] - 1", "gen n*-1", BadKind::Syntax, 136),
-        ("gen S[n] - 1", "gen n^2^2", BadKind::Syntax, 137),
-        ("0..2", "0...2", BadKind::Syntax, 199),
-        ("0..2", "0..-2", BadKind::Syntax, 199),
-        ("end\n", "end x\n", BadKind::Syntax, 217),
+        ("shift", "still", fault(BadKind::Syntax, 23)),
+        ("free n", "free 2", fault(BadKind::Syntax, 21)),
+        ("sum k\n", "sum k k\n", fault(BadKind::Syntax, 35)),
+        (
+            "sum k\n",
+            "sum k\nmgfun problem 1\n",
+            fault(BadKind::Syntax, 35),
+        ),
+        (
+            "S[n] - 1\ngen",
+            "S(n) - 1\ngen",
+            fault(BadKind::Syntax, 135),
+        ),
+        ("gen S[n] - 1", "gen S - 1", fault(BadKind::Syntax, 136)),
+        ("plus f f", "plus f", fault(BadKind::Syntax, 105)),
+        ("plus f f", "times f f", fault(BadKind::Syntax, 99)),
+        ("apply g: S[n]", "apply g S[n]", fault(BadKind::Syntax, 124)),
+        ("gen S[n] - 1", "gen n n", fault(BadKind::Syntax, 136)),
+        ("gen S[n] - 1", "gen ()", fault(BadKind::Syntax, 135)),
+        ("gen S[n] - 1", "gen (n", fault(BadKind::Syntax, 136)),
+        ("gen S[n] - 1", "gen +n", fault(BadKind::Syntax, 134)),
+        ("gen S[n] - 1", "gen n*-1", fault(BadKind::Syntax, 136)),
+        ("gen S[n] - 1", "gen n^2^2", fault(BadKind::Syntax, 137)),
+        ("0..2", "0...2", fault(BadKind::Syntax, 199)),
+        ("0..2", "0..-2", fault(BadKind::Syntax, 199)),
+        ("end\n", "end x\n", fault(BadKind::Syntax, 217)),
         (
             "mgfun problem 1\n",
             "mgfun problem 1\nend\n",
-            BadKind::Syntax,
-            16,
+            fault(BadKind::Syntax, 16),
         ),
-        ("den k: k", "den k k", BadKind::Syntax, 162),
-        ("let g = ", "let g ", BadKind::Syntax, 97),
-        ("gens S[n]", "gens ; S[n]", BadKind::Syntax, 62),
+        ("den k: k", "den k k", fault(BadKind::Syntax, 162)),
+        ("let g = ", "let g ", fault(BadKind::Syntax, 97)),
+        ("gens S[n]", "gens ; S[n]", fault(BadKind::Syntax, 62)),
     ];
-    for (old, new, kind, offset) in cases {
-        let text = FULL.replace(rt.alloc(), old, new)?;
-        assert_eq!(rt;
-            fault_of(rt.alloc(), text.as_bytes(), Command::Telescope)?,
-            fault(kind, offset),
-            "{old} to {new}"
-        );
-    }
-    Ok(())
+    each_has_its_fault(&rt, rt.alloc(), &cases)
 }
 
 #[test]
@@ -109,77 +107,67 @@ fn lines_are_counted(rt: HostRuntime) -> Result<(), Fail> {
         (
             "param a\n",
             "param a\nparam b\nparam c\nparam d\n",
-            BadKind::TooMany,
-            65,
+            fault(BadKind::TooMany, 65),
         ),
         (
             "sum k\n",
             "sum k\nfree m shift\nfree o diff\n",
-            BadKind::TooMany,
-            60,
+            fault(BadKind::TooMany, 60),
         ),
-        ("param a\n", "param a\nsum l\nint v\n", BadKind::TooMany, 55),
+        (
+            "param a\n",
+            "param a\nsum l\nint v\n",
+            fault(BadKind::TooMany, 55),
+        ),
         (
             "let g = plus f f\n",
             "let g0 = plus f f\nlet g1 = plus f f\nlet g2 = plus f f\nlet g3 = plus f f\nlet g4 = plus f f\nlet g5 = plus f f\nlet g6 = plus f f\nlet g7 = plus f f\n",
-            BadKind::TooMany,
-            217,
+            fault(BadKind::TooMany, 217),
         ),
         (
             "gens S[n] - 1; S[k] - 1; D[u] - 1",
             "gens 1; 1; 1; 1; 1; 1; 1; 1; 1; 1; 1; 1; 1; 1; 1; 1; 1",
-            BadKind::TooMany,
-            110,
+            fault(BadKind::TooMany, 110),
         ),
         (
             "gens S[n] - 1; S[k] - 1; D[u] - 1",
             "gens 1; 1; 1; 1; 1; 1; 1; 1; 1; 1; 1; 1; 1; 1; 1; 1; -k",
-            BadKind::TooMany,
-            110,
+            fault(BadKind::TooMany, 110),
         ),
         (
             "gen S[n] - 1\n",
             "gen S[n] - 1\ngen S[n] - 1\ngen S[n] - 1\ngen S[n] - 1\ngen S[n] - 1\ngen S[n] - 1\ngen S[n] - 1\ngen S[n] - 1\ngen S[n] - 1\ngen S[n] - 1\ngen S[n] - 1\ngen S[n] - 1\ngen S[n] - 1\ngen S[n] - 1\ngen S[n] - 1\ngen S[n] - 1\n",
-            BadKind::TooMany,
-            338,
+            fault(BadKind::TooMany, 338),
         ),
-        ("den u: u\n", "den k: S[k]\n", BadKind::TooMany, 169),
-        ("den u: u\n", "den k = 1\n", BadKind::TooMany, 169),
-        ("den u: u\n", "den u: u\nden n: 1\n", BadKind::TooMany, 178),
+        ("den u: u\n", "den k: S[k]\n", fault(BadKind::TooMany, 169)),
+        ("den u: u\n", "den k = 1\n", fault(BadKind::TooMany, 169)),
+        (
+            "den u: u\n",
+            "den u: u\nden n: 1\n",
+            fault(BadKind::TooMany, 178),
+        ),
         (
             "target S[k]\n",
             "target S[k]\ntarget S[k]\ntarget S[k]\ntarget S[k]\ntarget S[k]\ntarget S[k]\ntarget S[k]\ntarget S[k]\ntarget S[k]\ntarget S[k]\ntarget S[k]\ntarget S[k]\ntarget S[k]\ntarget S[k]\ntarget S[k]\ntarget S[k]\ntarget S[k]\n",
-            BadKind::TooMany,
-            370,
+            fault(BadKind::TooMany, 370),
         ),
         (
             "order 0..2\n",
             "order 0..2\norder 9..9\n",
-            BadKind::TooMany,
-            201,
+            fault(BadKind::TooMany, 201),
         ),
         (
             "degree 1..3\n",
             "degree 1..3\ndegree 1..3\n",
-            BadKind::TooMany,
-            213,
+            fault(BadKind::TooMany, 213),
         ),
         (
             "gen S[n] - 1\ngen S[k] - a\n",
             "use h\nuse h\n",
-            BadKind::TooMany,
-            136,
+            fault(BadKind::TooMany, 136),
         ),
     ];
-    for (old, new, kind, offset) in cases {
-        let text = FULL.replace(rt.alloc(), old, new)?;
-        assert_eq!(rt;
-            fault_of(rt.alloc(), text.as_bytes(), Command::Telescope)?,
-            fault(kind, offset),
-            "{old} to {new}"
-        );
-    }
-    Ok(())
+    each_has_its_fault(&rt, rt.alloc(), &cases)
 }
 
 #[test]

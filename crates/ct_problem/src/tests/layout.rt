@@ -1,6 +1,6 @@
 // How the lines of a text stand one after the other, and what may stand between tokens.
 
-use crate::tests::{FULL, fault, fault_of};
+use crate::tests::{FULL, each_has_its_fault, fault, fault_of};
 use crate::{BadKind, read_problem};
 use ct_io::Command;
 use std::test::Fail;
@@ -68,15 +68,7 @@ fn lines_stand_in_their_order(rt: HostRuntime) -> Result<(), Fail> {
             fault(BadKind::Missing, 201),
         ),
     ];
-    for (old, new, wanted) in cases {
-        let text = FULL.replace(rt.alloc(), old, new)?;
-        assert_eq!(rt;
-            fault_of(rt.alloc(), text.as_bytes(), Command::Telescope)?,
-            wanted,
-            "{new}"
-        );
-    }
-    Ok(())
+    each_has_its_fault(&rt, rt.alloc(), &cases)
 }
 
 #[test]
@@ -92,15 +84,7 @@ fn blanks_and_comments_stand_between(rt: HostRuntime) -> Result<(), Fail> {
         ("..", " .. ", None),
         (" ", "", fault(BadKind::Syntax, 0)),
     ];
-    for (old, new, wanted) in cases {
-        let text = FULL.replace(rt.alloc(), old, new)?;
-        assert_eq!(rt;
-            fault_of(rt.alloc(), text.as_bytes(), Command::Telescope)?,
-            wanted,
-            "{new}"
-        );
-    }
-    Ok(())
+    each_has_its_fault(&rt, rt.alloc(), &cases)
 }
 
 #[test]

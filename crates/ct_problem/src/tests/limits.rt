@@ -1,7 +1,6 @@
 // Each limit is met.
 
-use crate::tests::{FULL, fault_of};
-use ct_io::Command;
+use crate::tests::each_has_its_fault;
 use std::test::Fail;
 
 #[test]
@@ -45,12 +44,7 @@ fn limits_may_be_met(rt: HostRuntime) -> Result<(), Fail> {
         ),
     ];
     for (old, new) in cases {
-        let text = FULL.replace(rt.alloc(), old, new)?;
-        assert_eq!(rt;
-            fault_of(rt.alloc(), text.as_bytes(), Command::Telescope)?,
-            None,
-            "{old} to {new}"
-        );
+        each_has_its_fault(&rt, rt.alloc(), &[(old, new, None)])?;
     }
     Ok(())
 }
