@@ -6,12 +6,13 @@
 #![tactic(auto)]
 
 mod factors;
-pub mod laws;
+mod laws;
 mod operator;
 mod polynomial;
 #[cfg(test)]
 mod tests;
 
 pub use ct_mono::NoMemory;
+pub use laws::{printed_operators_are_read, printed_polynomials_are_read};
 pub use operator::print_op;
 pub use polynomial::print_poly;

@@ -19,7 +19,7 @@ mod division;
 #[cfg(test)]
 mod division_tests;
 mod gathering;
-pub mod laws;
+mod laws;
 mod measures;
 mod order;
 mod part;
@@ -34,6 +34,13 @@ mod tests;
 mod whole;
 
 pub use ct_mono::{Fault, Kind, LARGEST_DEGREE, LARGEST_NORM, MOST_TERMS, Monomial, NoMemory};
+pub use laws::{
+    checked_values_are_exact, common_monomial_is_greatest, content_is_greatest,
+    derivatives_are_within_measures, order_is_total, parts_make_whole, primitive_form_is_primitive,
+    primitive_part_is_primitive, product_fits_where_measures_do, product_with_zero_fits,
+    products_are_within_measures, shifts_are_within_measures, sum_fits_where_measures_do,
+    sums_are_within_measures,
+};
 pub use poly::Poly;
 pub use split::Split;
 pub use term::Term;

@@ -5,10 +5,10 @@
 //! of a generator divides a monomial of the rest. `specs/Membership.antt` says so.
 //!
 //! Which scale, cofactors and rest these are, and which overflow comes first, is `specs/Reduction.antt`: the
-//! steps in their order, as a checked loop. The laws of `laws` say what its search finds.
+//! steps in their order, as a checked loop. `laws.rt` says what its search finds.
 #![tactic(auto)]
 
-pub mod laws;
+mod laws;
 mod reduced;
 mod reduction;
 mod search;
@@ -16,5 +16,9 @@ mod step;
 #[cfg(test)]
 mod tests;
 
+pub use laws::{
+    each_step_falls, each_step_is_exact, first_reducer_is_first, greatest_reducible_is_greatest,
+    reduction_goes_by_turns, rest_zero_is_member,
+};
 pub use reduced::Reduced;
 pub use reduction::left_reduce;

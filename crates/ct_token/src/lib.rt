@@ -8,12 +8,13 @@
 //! text are, without the pass, and `specs/Cutting.antt` how they and the gaps between them make it up.
 #![tactic(auto)]
 
-pub mod laws;
+mod laws;
 mod lexer;
 #[cfg(test)]
 mod tests;
 mod token;
 
+pub use laws::{scans_are_tokens, scans_cut_the_text};
 pub use lexer::{Scan, scan_text};
 pub use std::alloc::AllocError as NoMemory;
 pub use token::{Symbol, Token};
