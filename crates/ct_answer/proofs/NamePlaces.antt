@@ -11,7 +11,7 @@ use Rattle.ct_problem.specs.Declarations.{declared}
 use Rattle.ct_problem.specs.Names.{same_action, is_named, acts_as}
 use Rattle.ct_problem.specs.Grammar.{IsVariable, IsActing}
 use Rattle.ct_problem.proofs.ShownSymbols.{same_word, unequal_words}
-use Rattle.ct_problem.proofs.Values.{both}
+use Rattle.ct_expr.proofs.Values.{both}
 use Rattle.ct_answer.specs.Text.{naming_at}
 
 -- ---- words

@@ -5,7 +5,7 @@ use Rattle.std.proofs.lemmas.List.{append-nil}
 use Rattle.ct_token.specs.Lexical.{scan_of}
 use Rattle.ct_token.proofs.TokenPlaces.{scans_are_tokens}
 use Rattle.ct_ore.specs.Naming.{Naming, IsAlgebra}
-use Rattle.ct_problem.specs.declared.expr.Expr.{Expr}
+use Rattle.ct_expr.specs.declared.expr.Expr.{Expr}
 use Rattle.ct_problem.specs.Input.{Input, Outcome}
 use Rattle.ct_problem.specs.Declarations.{declared}
 use Rattle.ct_problem.specs.Expressions.{expression}

@@ -16,8 +16,8 @@ use Rattle.ct_algebra.proofs.OperatorLawProofs as operator_laws
 use Rattle.ct_mono.specs.Checked.{Checked, ◌>>=◌}
 use Rattle.ct_mono.specs.Limits.{largest_degree, most_terms, largest_norm}
 use Rattle.ct_ore.specs.Measures.{row_of, all_terms, coefficient_terms, term_count, term_norm}
-use Rattle.ct_problem.specs.ValueArithmetic.{Value, over_one}
-use Rattle.ct_problem.specs.Value.{value_of, fraction_of}
+use Rattle.ct_expr.specs.ValueArithmetic.{Value, over_one}
+use Rattle.ct_expr.specs.Value.{value_of, fraction_of}
 use Rattle.ct_problem.specs.WellFormed.{Each}
 use Rattle.ct_answer.specs.declared.factors.Power.{Power}
 use Rattle.ct_answer.specs.Text.{names_in, symbols_in}

@@ -16,8 +16,8 @@ use Rattle.ct_algebra.proofs.PolynomialLawProofs as polynomial_laws
 use Rattle.ct_mono.specs.Limits.{largest_degree, most_terms, largest_norm}
 use Rattle.ct_poly.proofs.DivisionSteps.{term-neg}
 use Rattle.ct_poly.proofs.TermLists.{rebuilt}
-use Rattle.ct_problem.specs.ValueArithmetic.{over_one}
-use Rattle.ct_problem.specs.Value.{fraction_of}
+use Rattle.ct_expr.specs.ValueArithmetic.{over_one}
+use Rattle.ct_expr.specs.Value.{fraction_of}
 use Rattle.ct_problem.specs.WellFormed.{Each}
 use Rattle.ct_answer.specs.declared.factors.Power.{Power}
 use Rattle.ct_answer.specs.Text.{names_in}

@@ -12,11 +12,11 @@ use Rattle.ct_algebra.specs.Operators.{term_of}
 use Rattle.ct_mono.specs.Checked.{Checked, ◌>>=◌}
 use Rattle.ct_mono.specs.Limits.{largest_degree, most_terms, largest_norm}
 use Rattle.ct_ore.specs.Measures.{checked_product}
-use Rattle.ct_problem.specs.declared.expr.Expr.TheVariants as e
-use Rattle.ct_problem.specs.ValueArithmetic.{Value, over_one, checked_times}
-use Rattle.ct_problem.specs.Value.{fraction_of, fractions, product_from, power_from, one_value}
-use Rattle.ct_problem.proofs.OverOne.{times_over_one}
-use Rattle.ct_problem.proofs.Values.{fraction_of-Name, fraction_of-Symbol, fraction_of-Power}
+use Rattle.ct_expr.specs.declared.expr.Expr.TheVariants as e
+use Rattle.ct_expr.specs.ValueArithmetic.{Value, over_one, checked_times}
+use Rattle.ct_expr.specs.Value.{fraction_of, fractions, product_from, power_from, one_value}
+use Rattle.ct_expr.proofs.OverOne.{times_over_one}
+use Rattle.ct_expr.proofs.Values.{fraction_of-Name, fraction_of-Symbol, fraction_of-Power}
 use Rattle.ct_problem.specs.WellFormed.{Each}
 use Rattle.ct_answer.specs.declared.factors.Power.{Power}
 use Rattle.ct_answer.proofs.PowerMonomials.{raised, raised-one, monomial_of, all_of, unit_before}

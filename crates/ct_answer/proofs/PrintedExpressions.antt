@@ -9,8 +9,8 @@ use Rattle.std.specs.Prelude.{unsigned_abs, if◌then◌else◌}
 use Rattle.ct_algebra.specs.Monomial.{Mono}
 use Rattle.ct_algebra.specs.Polynomial.{Polynomial}
 use Rattle.ct_algebra.specs.Operators.{Operator}
-use Rattle.ct_problem.specs.declared.expr.Expr.{Expr}
-use Rattle.ct_problem.specs.declared.expr.Expr.TheVariants as e
+use Rattle.ct_expr.specs.declared.expr.Expr.{Expr}
+use Rattle.ct_expr.specs.declared.expr.Expr.TheVariants as e
 use Rattle.ct_problem.specs.Grammar.{Term, product_of, sum_of}
 use Rattle.ct_answer.specs.declared.factors.Power.{Power}
 use Rattle.ct_answer.specs.Text.{names_in, symbols_in, is_negative}

@@ -8,8 +8,8 @@ use Rattle.ct_algebra.specs.Operators.{Operator, polynomial_at, term_of}
 use Rattle.ct_algebra.proofs.OperatorTerms.{at-term_of, pick-same}
 use Rattle.ct_mono.specs.Checked.{Checked, ◌>>=◌}
 use Rattle.ct_ore.specs.Naming.{Naming, actions_of}
-use Rattle.ct_problem.specs.ValueArithmetic.{Value}
-use Rattle.ct_problem.specs.Value.{value_of, checked_polynomial}
+use Rattle.ct_expr.specs.ValueArithmetic.{Value}
+use Rattle.ct_expr.specs.Value.{value_of, checked_polynomial}
 use Rattle.ct_answer.specs.Text.{polynomial_text, operator_text}
 use Rattle.ct_answer.specs.ReadBack.{PolynomialFits, PrintedPolynomialsAreRead, PrintedOperatorsAreRead}
 use Rattle.ct_answer.proofs.PrintedExpressions.{polynomial_expression, operator_expression}

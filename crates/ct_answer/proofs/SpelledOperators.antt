@@ -6,7 +6,7 @@ use Rattle.ct_algebra.specs.Monomial.{Mono}
 use Rattle.ct_algebra.specs.Polynomial.{Polynomial}
 use Rattle.ct_algebra.specs.Operators.{Operator}
 use Rattle.ct_ore.specs.Naming.{Naming, IsAlgebra}
-use Rattle.ct_problem.specs.declared.expr.Expr.{Expr}
+use Rattle.ct_expr.specs.declared.expr.Expr.{Expr}
 use Rattle.ct_problem.specs.Declarations.{declared}
 use Rattle.ct_problem.specs.Lexemes.{Lexeme, Texts, one, ◌▸◌, each}
 use Rattle.ct_problem.specs.Lexemes as lexeme

@@ -9,8 +9,8 @@ use Rattle.ct_algebra.specs.Monomial.{Mono}
 use Rattle.ct_algebra.specs.Polynomial.{Polynomial}
 use Rattle.ct_mono.specs.Limits.{largest_norm}
 use Rattle.ct_ore.specs.Naming.{Naming, IsAlgebra}
-use Rattle.ct_problem.specs.declared.expr.Expr.{Expr}
-use Rattle.ct_problem.specs.declared.expr.Expr.TheVariants as e
+use Rattle.ct_expr.specs.declared.expr.Expr.{Expr}
+use Rattle.ct_expr.specs.declared.expr.Expr.TheVariants as e
 use Rattle.ct_problem.specs.Declarations.{declared}
 use Rattle.ct_problem.specs.Lexemes.{Lexeme, Texts, nothing, one, optional, number, ◌▸◌, each}
 use Rattle.ct_problem.specs.Lexemes as lexeme

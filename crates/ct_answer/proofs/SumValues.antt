@@ -20,13 +20,13 @@ use Rattle.ct_mono.specs.Limits.{most_terms, largest_norm}
 use Rattle.ct_mono.specs.declared.fault.Kind.{Kind}
 use Rattle.ct_ore.specs.Measures.{coefficient_terms, term_count, term_norm, sum_overflow, checked_sum, checked_difference, difference_of_operators}
 use Rattle.ct_ore.proofs.WrittenOperators.{terms-no_operator}
-use Rattle.ct_problem.specs.declared.expr.Expr.TheVariants as e
+use Rattle.ct_expr.specs.declared.expr.Expr.TheVariants as e
 use Rattle.ct_problem.specs.Grammar.{Term, summand}
 use Rattle.ct_problem.specs.Grammar as grammar
-use Rattle.ct_problem.specs.ValueArithmetic.{Value, over_one}
-use Rattle.ct_problem.specs.Value.{fraction_of, signed, Signed, sum_from, joined}
-use Rattle.ct_problem.proofs.OverOne.{negated_over_one, plus_over_one, minus_over_one}
-use Rattle.ct_problem.proofs.Values.{fraction_of-Whole, fraction_of-Sum, fraction_of_term-out}
+use Rattle.ct_expr.specs.ValueArithmetic.{Value, over_one}
+use Rattle.ct_expr.specs.Value.{fraction_of, signed, Signed, sum_from, joined}
+use Rattle.ct_expr.proofs.OverOne.{negated_over_one, plus_over_one, minus_over_one}
+use Rattle.ct_expr.proofs.Values.{fraction_of-Whole, fraction_of-Sum, fraction_of_term-out}
 use Rattle.ct_answer.proofs.SumMeasures.{term_count-sum, term_norm-sum}
 use Rattle.ct_answer.proofs.PrintedExpressions.{sum_expression}
 

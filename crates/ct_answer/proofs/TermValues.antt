@@ -11,13 +11,13 @@ use Rattle.ct_mono.specs.Checked.{Checked, ◌>>=◌}
 use Rattle.ct_mono.specs.Limits.{largest_degree, largest_norm}
 use Rattle.ct_poly.proofs.TermLists.{positive_coef}
 use Rattle.ct_ore.specs.Measures.{checked_product}
-use Rattle.ct_problem.specs.declared.expr.Expr.{Expr}
-use Rattle.ct_problem.specs.declared.expr.Expr.TheVariants as e
+use Rattle.ct_expr.specs.declared.expr.Expr.{Expr}
+use Rattle.ct_expr.specs.declared.expr.Expr.TheVariants as e
 use Rattle.ct_problem.specs.Grammar.{product_of}
-use Rattle.ct_problem.specs.ValueArithmetic.{Value, over_one, checked_times}
-use Rattle.ct_problem.specs.Value.{fraction_of, fractions, product_from}
-use Rattle.ct_problem.proofs.OverOne.{times_over_one}
-use Rattle.ct_problem.proofs.Values.{fraction_of-Whole, fraction_of-Product}
+use Rattle.ct_expr.specs.ValueArithmetic.{Value, over_one, checked_times}
+use Rattle.ct_expr.specs.Value.{fraction_of, fractions, product_from}
+use Rattle.ct_expr.proofs.OverOne.{times_over_one}
+use Rattle.ct_expr.proofs.Values.{fraction_of-Whole, fraction_of-Product}
 use Rattle.ct_problem.specs.WellFormed.{Each}
 use Rattle.ct_answer.specs.declared.factors.Power.{Power}
 use Rattle.ct_ore.proofs.OneTerm.{total_unit}

@@ -7,7 +7,7 @@ use Rattle.ct_token.specs.declared.token.Symbol.TheVariants.{Word, Number, Sign}
 use Rattle.ct_token.specs.Lexical.{is_blank, is_letter, is_digit, is_word_byte, is_printable, line_end_len, starts_dots, Gap, Lexeme, piece_of}
 use Rattle.ct_token.specs.Lexing.{Stops}
 use Rattle.ct_token.proofs.Spellings.{front_length}
-use Rattle.ct_problem.proofs.Values.{both}
+use Rattle.ct_expr.proofs.Values.{both}
 
 -- ---- the tests of bytes
 

@@ -15,11 +15,11 @@ use Rattle.ct_algebra.specs.FreeOf.{IsFreeOf, IsOver}
 use Rattle.ct_mono.specs.Limits.{largest_degree, most_terms, largest_norm}
 use Rattle.ct_ore.specs.Naming.{Naming, IsAlgebra, actions_of}
 use Rattle.ct_ore.specs.Measures.{term_count, term_norm, coefficient_degree, order_of}
-use Rattle.ct_problem.specs.declared.expr.Expr.{Expr}
+use Rattle.ct_expr.specs.declared.expr.Expr.{Expr}
 use Rattle.ct_problem.specs.Declarations.{declared}
 use Rattle.ct_problem.specs.Lexemes.{lexemes}
 use Rattle.ct_problem.specs.Grammar.{IsExpression}
-use Rattle.ct_problem.specs.Value.{value_of, checked_polynomial}
+use Rattle.ct_expr.specs.Value.{value_of, checked_polynomial}
 use Rattle.ct_problem.specs.WellFormed.{IsOperator, IsPolynomial}
 use Rattle.ct_answer.specs.Text.{polynomial_text, operator_text}
 

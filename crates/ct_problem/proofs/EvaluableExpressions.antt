@@ -9,9 +9,9 @@ use Rattle.ct_token.specs.declared.token.Symbol.TheVariants.{Word, Number, Sign,
 use Rattle.ct_algebra.specs.Actions.{Action, Still}
 use Rattle.ct_ore.specs.declared.algebra.Role.TheVariants.{Free}
 use Rattle.ct_mono.specs.Limits.{largest_norm, largest_degree}
-use Rattle.ct_problem.specs.declared.expr.Expr.{Expr}
-use Rattle.ct_problem.specs.declared.expr.Expr.TheVariants as e
-use Rattle.ct_problem.specs.declared.expr.Summand.{Summand}
+use Rattle.ct_expr.specs.declared.expr.Expr.{Expr}
+use Rattle.ct_expr.specs.declared.expr.Expr.TheVariants as e
+use Rattle.ct_expr.specs.declared.expr.Summand.{Summand}
 use Rattle.ct_problem.specs.declared.fault.BadKind.TheVariants.{Syntax, WrongKind, ZeroDenominator, ExponentTooLarge, TooDeep}
 use Rattle.ct_problem.specs.declared.reading.names.Known.{Known}
 use Rattle.ct_problem.specs.declared.reading.names.Known.TheVariants.{Variable, Let, Unknown}

@@ -3,14 +3,14 @@
 use Rattle.std.proofs.Common.{◌≡◌, ◌≢◌, ℕ, zero, suc, ◌<◌, ◌≤◌, Bool, true, false, List, [], ◌∷◌, ◌++◌, map, IsTrue, pos, nat_lt, refl, sym, ap, ◌∙◌, arith}
 use Rattle.std.proofs.lemmas.Bool.{false≢true, le-leb}
 use Rattle.ct_mono.specs.Limits.{largest_norm}
-use Rattle.ct_problem.specs.declared.expr.Expr.{Expr}
-use Rattle.ct_problem.specs.declared.expr.Expr.TheVariants as e
-use Rattle.ct_problem.specs.declared.expr.Expr.TheFolds.{fold-roll-Expr, fold-roll-Summand}
-use Rattle.ct_problem.specs.declared.expr.Summand.{Summand}
+use Rattle.ct_expr.specs.declared.expr.Expr.{Expr}
+use Rattle.ct_expr.specs.declared.expr.Expr.TheVariants as e
+use Rattle.ct_expr.specs.declared.expr.Expr.TheFolds.{fold-roll-Expr, fold-roll-Summand}
+use Rattle.ct_expr.specs.declared.expr.Summand.{Summand}
 use Rattle.ct_problem.specs.Grammar.{product_of, summand}
-use Rattle.ct_problem.specs.Value.{is_evaluable, is_evaluable_term, has_no_symbol, has_no_symbol_term, no_symbol_step, all_true}
+use Rattle.ct_expr.specs.Value.{is_evaluable, is_evaluable_term, has_no_symbol, has_no_symbol_term, no_symbol_step, all_true}
 use Rattle.ct_problem.specs.WellFormed.{Each}
-use Rattle.ct_problem.proofs.Values.{evaluable-Whole, evaluable-Ratio, evaluable-Name, evaluable-Symbol, evaluable-Sum, evaluable-Product, evaluable-Power}
+use Rattle.ct_expr.proofs.Values.{evaluable-Whole, evaluable-Ratio, evaluable-Name, evaluable-Symbol, evaluable-Sum, evaluable-Product, evaluable-Power}
 
 no_symbol-Whole : (n : ℕ) → has_no_symbol (e.Whole (pos n)) ≡ true
 unfolding has_no_symbol no_symbol_step

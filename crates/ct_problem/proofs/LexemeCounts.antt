@@ -8,7 +8,7 @@ use Rattle.ct_token.specs.Lexical.{scan_of}
 use Rattle.ct_token.specs.Lexing.{AreTokens}
 use Rattle.ct_token.specs.declared.token.Token.{Token}
 use Rattle.ct_token.proofs.TokenPlaces.{scans_are_tokens}
-use Rattle.ct_problem.specs.declared.expr.Expr.{Expr}
+use Rattle.ct_expr.specs.declared.expr.Expr.{Expr}
 use Rattle.ct_problem.specs.declared.report.Report.{Report}
 use Rattle.ct_problem.specs.GrammarReport.{ReportStandsFor, cofactors}
 use Rattle.ct_problem.specs.Lexemes.{Lexeme, Word, Texts, ◌▸◌, lexemes}

@@ -8,7 +8,7 @@ use Rattle.ct_ore.specs.Naming.{Naming}
 use Rattle.ct_token.specs.declared.token.Symbol.{Symbol}
 use Rattle.ct_token.specs.declared.token.Symbol.TheVariants.{Word, Number, Sign, Dots, LineEnd}
 use Rattle.ct_token.specs.declared.token.Token.{Token}
-use Rattle.ct_problem.specs.declared.expr.Expr.{Expr}
+use Rattle.ct_expr.specs.declared.expr.Expr.{Expr}
 use Rattle.ct_problem.specs.declared.fault.BadKind.{BadKind}
 use Rattle.ct_problem.specs.declared.fault.BadKind.TheVariants.{TooMany, Syntax}
 use Rattle.ct_problem.specs.declared.problem.Gens.TheVariants.{Listed, Named}

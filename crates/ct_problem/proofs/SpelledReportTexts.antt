@@ -8,7 +8,7 @@ use Rattle.ct_token.specs.declared.token.Symbol.TheVariants as symbol
 use Rattle.ct_token.specs.declared.token.Token.{Token}
 use Rattle.ct_token.specs.Lexing.{slice}
 use Rattle.ct_ore.specs.Naming.{Naming}
-use Rattle.ct_problem.specs.declared.expr.Expr.{Expr}
+use Rattle.ct_expr.specs.declared.expr.Expr.{Expr}
 use Rattle.ct_problem.specs.declared.report.Quotient.{Quotient}
 use Rattle.ct_problem.specs.declared.report.Report.{Report}
 use Rattle.ct_problem.specs.Declarations.{declared}

@@ -3,8 +3,8 @@ use Rattle.std.proofs.Common.{◌≡◌, ℕ, zero, suc, Bool, true, false, cond
 use Rattle.std.proofs.lemmas.List.{append_assoc}
 use Rattle.ct_token.specs.declared.token.Symbol.TheVariants as symbol
 use Rattle.ct_mono.specs.Limits.{largest_degree}
-use Rattle.ct_problem.specs.declared.expr.Expr.{Expr}
-use Rattle.ct_problem.specs.declared.expr.Expr.TheVariants as e
+use Rattle.ct_expr.specs.declared.expr.Expr.{Expr}
+use Rattle.ct_expr.specs.declared.expr.Expr.TheVariants as e
 use Rattle.ct_problem.specs.declared.fault.BadKind.TheVariants.{Syntax, ExponentTooLarge}
 use Rattle.ct_problem.specs.Input.{Input, Outcome, Parser, ◌>>=◌, pure, eat}
 use Rattle.ct_problem.specs.Input as input

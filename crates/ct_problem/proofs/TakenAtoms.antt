@@ -5,8 +5,8 @@ use Rattle.ct_token.specs.declared.token.Symbol.{Symbol}
 use Rattle.ct_token.specs.declared.token.Symbol.TheVariants as symbol
 use Rattle.ct_algebra.specs.Actions.{Action, Shift, Derive}
 use Rattle.ct_mono.specs.Limits.{largest_norm}
-use Rattle.ct_problem.specs.declared.expr.Expr.{Expr}
-use Rattle.ct_problem.specs.declared.expr.Expr.TheVariants as expr
+use Rattle.ct_expr.specs.declared.expr.Expr.{Expr}
+use Rattle.ct_expr.specs.declared.expr.Expr.TheVariants as expr
 use Rattle.ct_problem.specs.declared.fault.BadKind.TheVariants.{WrongKind, ZeroDenominator}
 use Rattle.ct_problem.specs.declared.reading.names.Known.{Known}
 use Rattle.ct_problem.specs.declared.reading.names.Known.TheVariants.{Variable}

@@ -1,7 +1,7 @@
 -- Lexemes that stand for the lines of a problem before the last one are read as what they say. Main lemma `Takes-all_lines`.
 use Rattle.std.proofs.Common.{ℕ, List, [], Option, refl, arith, codes}
 use Rattle.ct_ore.specs.Naming.{Naming}
-use Rattle.ct_problem.specs.declared.expr.Expr.{Expr}
+use Rattle.ct_expr.specs.declared.expr.Expr.{Expr}
 use Rattle.ct_problem.specs.declared.problem.Gens.{Gens}
 use Rattle.ct_problem.specs.declared.problem.Range.{Range}
 use Rattle.ct_problem.specs.Declarations.{declarations}

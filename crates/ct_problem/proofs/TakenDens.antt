@@ -5,7 +5,7 @@ use Rattle.std.specs.Option.{is_none}
 use Rattle.std.proofs.lemmas.Bool.{false≢true}
 use Rattle.ct_token.specs.declared.token.Symbol.{Symbol}
 use Rattle.ct_ore.specs.Naming.{Naming, is_summed}
-use Rattle.ct_problem.specs.declared.expr.Expr.{Expr}
+use Rattle.ct_expr.specs.declared.expr.Expr.{Expr}
 use Rattle.ct_problem.specs.declared.fault.BadKind.TheVariants.{WrongKind}
 use Rattle.ct_problem.specs.declared.reading.names.Known.{Known}
 use Rattle.ct_problem.specs.DenLines.{Dens, no_dens, is_given, with_den, is_summed_name, summed_by, summed_word, summed_name, once, den_line, den_lines, den_lines_from}

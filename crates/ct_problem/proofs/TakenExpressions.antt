@@ -2,9 +2,9 @@
 use Rattle.std.proofs.Common.{◌≡◌, ℕ, zero, suc, ◌≤◌, ◌||◌, Bool, true, false, cond, List, [], ◌∷◌, ◌++◌, length, map, Option, Some, None, refl, sym, ap, ◌∙◌, subst, arith}
 use Rattle.std.specs.Option.{is_none}
 use Rattle.std.proofs.lemmas.List.{append_assoc, append-nil}
-use Rattle.ct_problem.specs.declared.expr.Expr.{Expr}
-use Rattle.ct_problem.specs.declared.expr.Expr.TheVariants as expr
-use Rattle.ct_problem.specs.declared.expr.Summand.{Summand}
+use Rattle.ct_expr.specs.declared.expr.Expr.{Expr}
+use Rattle.ct_expr.specs.declared.expr.Expr.TheVariants as expr
+use Rattle.ct_expr.specs.declared.expr.Summand.{Summand}
 use Rattle.ct_problem.specs.Input.{Input, Parser, ◌>>=◌, ◌>>◌, ◌<$>◌, pure, skip, eat, expect, sees}
 use Rattle.ct_problem.specs.Names.{Names}
 use Rattle.ct_problem.specs.Expressions.{summand, joint, is_minus, joins, term, summands_from, summands, sum, nested, expression}

@@ -5,7 +5,7 @@ use Rattle.std.specs.Str.{bytes_eq}
 use Rattle.std.proofs.lemmas.List.{append_assoc, append-nil}
 use Rattle.ct_token.specs.declared.token.Symbol.{Symbol}
 use Rattle.ct_ore.specs.Naming.{Naming}
-use Rattle.ct_problem.specs.declared.expr.Expr.{Expr}
+use Rattle.ct_expr.specs.declared.expr.Expr.{Expr}
 use Rattle.ct_problem.specs.declared.problem.LetForm.{LetForm}
 use Rattle.ct_problem.specs.declared.problem.LetForm.TheVariants as form
 use Rattle.ct_problem.specs.declared.reading.let_lines.LetWord.{LetWord}

@@ -1,6 +1,6 @@
 -- Lexemes that stand for a line are read as what they stand for.
 use Rattle.std.proofs.Common.{ℕ, Bool, Option, List, ◌++◌, refl, sym, subst, arith, codes}
-use Rattle.ct_problem.specs.declared.expr.Expr.{Expr}
+use Rattle.ct_expr.specs.declared.expr.Expr.{Expr}
 use Rattle.ct_problem.specs.Input.{◌>>◌, pure, expect, expect_word, line_end}
 use Rattle.ct_problem.specs.Number as digits
 use Rattle.ct_problem.specs.Expressions.{expression}

@@ -5,7 +5,7 @@ use Rattle.ct_token.specs.declared.token.Token.{Token}
 use Rattle.ct_mono.specs.Limits.{largest_norm}
 use Rattle.ct_ore.specs.Naming.{Naming}
 use Rattle.ct_problem.specs.declared.fault.BadKind.TheVariants.{OutOfRange}
-use Rattle.ct_problem.specs.declared.expr.Expr.{Expr}
+use Rattle.ct_expr.specs.declared.expr.Expr.{Expr}
 use Rattle.ct_problem.specs.declared.report.Quotient.{Quotient}
 use Rattle.ct_problem.specs.declared.report.Report.{Report}
 use Rattle.ct_problem.specs.Input.{Input, Parser, ◌>>=◌, ◌>>◌, pure, expect, expect_word, line_end}

@@ -2,8 +2,8 @@
 use Rattle.std.proofs.Common.{◌≡◌, ℕ, zero, suc, ◌≤◌, Bool, true, false, cond, List, [], ◌∷◌, ◌++◌, length, Option, refl, sym, ap, subst, arith, codes, length-append}
 use Rattle.std.proofs.lemmas.List.{append_assoc}
 use Rattle.ct_mono.specs.Limits.{largest_degree}
-use Rattle.ct_problem.specs.declared.expr.Expr.{Expr}
-use Rattle.ct_problem.specs.declared.expr.Expr.TheVariants as expr
+use Rattle.ct_expr.specs.declared.expr.Expr.{Expr}
+use Rattle.ct_expr.specs.declared.expr.Expr.TheVariants as expr
 use Rattle.ct_problem.specs.declared.fault.BadKind.TheVariants.{ExponentTooLarge}
 use Rattle.ct_problem.specs.Input.{Input, Parser, ◌>>=◌, pure, eat}
 use Rattle.ct_problem.specs.Number as digits

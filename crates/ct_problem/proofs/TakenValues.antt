@@ -1,7 +1,7 @@
 -- Lexemes that stand for lines with values are read as what they stand for.
 use Rattle.std.proofs.Common.{◌≡◌, ℕ, zero, suc, ◌<◌, ◌≤◌, Bool, true, false, cond, Option, List, [], ◌∷◌, ◌++◌, length, refl, sym, ap, ◌∙◌, arith}
 use Rattle.std.proofs.lemmas.List.{append_assoc, append-nil}
-use Rattle.ct_problem.specs.declared.expr.Expr.{Expr}
+use Rattle.ct_expr.specs.declared.expr.Expr.{Expr}
 use Rattle.ct_problem.specs.declared.fault.BadKind.TheVariants.{TooMany}
 use Rattle.ct_problem.specs.Input.{Parser, ◌>>=◌, ◌>>◌, pure, sees_word, eat_word}
 use Rattle.ct_problem.specs.Lines as read

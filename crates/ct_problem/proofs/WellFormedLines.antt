@@ -1,6 +1,6 @@
 -- What is read as a line with an expression, or as several, is well formed.
 use Rattle.std.proofs.Common.{◌≡◌, ℕ, zero, suc, ◌+◌, ◌≤◌, Bool, true, false, cond, List, [], ◌∷◌, ◌++◌, length, refl, ◌∙◌, arith, length-append, codes}
-use Rattle.ct_problem.specs.declared.expr.Expr.{Expr}
+use Rattle.ct_expr.specs.declared.expr.Expr.{Expr}
 use Rattle.ct_problem.specs.declared.fault.BadKind.TheVariants.{TooMany}
 use Rattle.ct_problem.specs.Input.{◌>>=◌, ◌>>◌, pure, look, eat_word, sees_word, line_end}
 use Rattle.ct_problem.specs.Number.{unless}

@@ -5,7 +5,7 @@ use Rattle.ct_io.specs.declared.command.Command.{Command}
 use Rattle.ct_token.specs.Lexical.{scan_of}
 use Rattle.ct_token.proofs.TokenPlaces.{scans_are_tokens}
 use Rattle.ct_ore.specs.Naming.{Naming, IsAlgebra}
-use Rattle.ct_problem.specs.declared.expr.Expr.{Expr}
+use Rattle.ct_expr.specs.declared.expr.Expr.{Expr}
 use Rattle.ct_problem.specs.declared.fault.BadKind.TheVariants.{OutOfRange, EmptyRange}
 use Rattle.ct_problem.specs.declared.problem.Gens.{Gens}
 use Rattle.ct_problem.specs.declared.problem.Gens.TheVariants.{Listed, Named}

@@ -4,7 +4,7 @@ use Rattle.ct_token.specs.declared.token.Token.{Token}
 use Rattle.ct_token.specs.Lexical.{scan_of}
 use Rattle.ct_token.proofs.TokenPlaces.{scans_are_tokens}
 use Rattle.ct_ore.specs.Naming.{Naming, summed_of}
-use Rattle.ct_problem.specs.declared.expr.Expr.{Expr}
+use Rattle.ct_expr.specs.declared.expr.Expr.{Expr}
 use Rattle.ct_problem.specs.declared.fault.BadKind.TheVariants.{OutOfRange, TrailingText}
 use Rattle.ct_problem.specs.declared.report.Quotient.{Quotient}
 use Rattle.ct_problem.specs.declared.report.Report.{Report}

@@ -12,9 +12,9 @@
 use Rattle.std.specs.Prelude.{◌≡◌, ◌≢◌, ℕ, zero, suc, Bool, false, if◌then◌else◌, List, [], ◌∷◌, map, position, slice_get, Some, IsTrue, pos, codes}
 use Rattle.ct_algebra.specs.Actions.{Action, Shift, Derive}
 use Rattle.ct_mono.specs.Limits.{largest_degree, largest_norm}
-use Rattle.ct_problem.specs.declared.expr.Expr.{Expr}
-use Rattle.ct_problem.specs.declared.expr.Expr.TheVariants as e
-use Rattle.ct_problem.specs.declared.expr.Summand.{Summand, roll-Summand}
+use Rattle.ct_expr.specs.declared.expr.Expr.{Expr}
+use Rattle.ct_expr.specs.declared.expr.Expr.TheVariants as e
+use Rattle.ct_expr.specs.declared.expr.Summand.{Summand, roll-Summand}
 use Rattle.ct_problem.specs.Names.{Names, is_named, acts_as}
 use Rattle.ct_problem.specs.Lexemes.{Lexeme, Word, Sign, Texts, one, optional, number, ◌▸◌, each}
 use Rattle.ct_problem.specs.Signs.{plus, minus, star, caret, open_parenthesis, close_parenthesis, open_bracket, close_bracket, slash}

@@ -9,7 +9,7 @@
 use Rattle.std.specs.Prelude.{◌≡◌, ◌≤◌, ℕ, true, List, [], ◌∷◌, ◌++◌, length, position, Some, None, IsTrue, codes}
 use Rattle.std.specs.Str.{bytes_eq}
 use Rattle.ct_ore.specs.Naming.{Naming}
-use Rattle.ct_problem.specs.declared.expr.Expr.{Expr}
+use Rattle.ct_expr.specs.declared.expr.Expr.{Expr}
 use Rattle.ct_problem.specs.declared.problem.LetForm.{LetForm}
 use Rattle.ct_problem.specs.declared.problem.LetForm.TheVariants.{Gens, Plus, Product, Apply}
 use Rattle.ct_problem.specs.Grammar.{IsExpression}

@@ -21,8 +21,5 @@ pub mod ReadProblem
 pub mod Draft
 pub mod ReportLines
 pub mod ReadReport
-pub mod ValueArithmetic
-pub mod Value
 pub mod WellFormed
 pub mod WellFormedProps
-pub mod ValueLaws

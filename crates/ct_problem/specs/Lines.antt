@@ -4,7 +4,7 @@
 --     part names key text ops     a line of a name's expression in a report: `key NAME: EXPR`
 --     value_lines names key       the lines `key EXPR`, at most 16
 use Rattle.std.specs.Prelude.{ℕ, zero, suc, Bool, true, if◌then◌else◌, List, [], ◌∷◌, ◌++◌, codes}
-use Rattle.ct_problem.specs.declared.expr.Expr.{Expr}
+use Rattle.ct_expr.specs.declared.expr.Expr.{Expr}
 use Rattle.ct_problem.specs.declared.fault.BadKind.TheVariants.{TooMany}
 use Rattle.ct_problem.specs.Input.{Parser, ◌>>=◌, ◌>>◌, pure, look, expect, eat_word, expect_word, sees_word, line_end}
 use Rattle.ct_problem.specs.Number.{exactly, unless}

@@ -16,7 +16,7 @@ use Rattle.ct_token.specs.declared.token.Symbol.{Symbol}
 use Rattle.ct_token.specs.declared.token.Symbol.TheVariants.{LineEnd}
 use Rattle.ct_token.specs.declared.token.Token.{Token}
 use Rattle.ct_ore.specs.Naming.{Naming}
-use Rattle.ct_problem.specs.declared.expr.Expr.{Expr}
+use Rattle.ct_expr.specs.declared.expr.Expr.{Expr}
 use Rattle.ct_problem.specs.declared.fault.BadInput.{BadInput}
 use Rattle.ct_problem.specs.declared.fault.BadKind.TheVariants.{TooLong, Missing, TrailingText}
 use Rattle.ct_problem.specs.declared.fault.ReadFault.{ReadFault}

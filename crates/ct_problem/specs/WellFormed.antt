@@ -8,7 +8,7 @@
 -- `IsWellFormed` is the ghost field of `Problem`, so nothing here mentions that type.
 use Rattle.std.specs.Prelude.{◌≡◌, ◌<◌, ◌≤◌, ℕ, suc, List, [], ◌∷◌, length, Option, Some, None, IsTrue}
 use Rattle.ct_ore.specs.Naming.{Naming, IsAlgebra}
-use Rattle.ct_problem.specs.declared.expr.Expr.{Expr}
+use Rattle.ct_expr.specs.declared.expr.Expr.{Expr}
 use Rattle.ct_problem.specs.declared.problem.Gens.{Gens}
 use Rattle.ct_problem.specs.declared.problem.Gens.TheVariants as gens
 use Rattle.ct_problem.specs.declared.problem.LetForm.{LetForm}
@@ -17,7 +17,7 @@ use Rattle.ct_problem.specs.declared.problem.Range.{Range}
 use Rattle.ct_problem.specs.declared.report.Quotient.{Quotient}
 use Rattle.ct_problem.specs.declared.report.Report.{Report}
 use Rattle.ct_problem.specs.DenLines.{Dens, is_summed_name}
-use Rattle.ct_problem.specs.Value.{is_evaluable, has_no_symbol}
+use Rattle.ct_expr.specs.Value.{is_evaluable, has_no_symbol}
 
 abbrev pub IsOperator : Expr → Type 0
 IsOperator x = IsTrue (is_evaluable x)

@@ -6,7 +6,7 @@ use Rattle.std.proofs.Props.{props}
 use mathlib.Core.Bool.{Bool-set}
 use mathlib.Core.HLevel.{⊥_prop}
 use Rattle.ct_ore.specs.Naming.{Naming, IsWord, IsNaming, EachIsNaming, IsOtherText, TextsDiffer, IsAlgebra}
-use Rattle.ct_problem.specs.declared.expr.Expr.{Expr}
+use Rattle.ct_expr.specs.declared.expr.Expr.{Expr}
 use Rattle.ct_problem.specs.declared.problem.Gens.{Gens}
 use Rattle.ct_problem.specs.declared.problem.Gens.TheVariants as gens
 use Rattle.ct_problem.specs.declared.problem.LetForm.{LetForm}

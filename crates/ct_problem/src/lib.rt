@@ -1,7 +1,7 @@
 //! Problems and reports as texts.
 //!
 //! `read_problem` reads a problem for a command, or tells its first fault; `read_found_report` reads a report
-//! on it that found a telescoper. Names and symbols stand in an `Expr` as numbers of declared names.
+//! on it that found a telescoper. The expressions in them are those of `ct_expr`, which says what they stand for.
 //!
 //! Which bytes stand for which problem and report is a relation by the grammar: read `specs/Lexemes.antt`
 //! first, then `specs/Grammar.antt` for expressions, `specs/GrammarLets.antt` and `specs/GrammarProblem.antt`
@@ -11,25 +11,18 @@
 //! field, and what is known of a report that was read.
 #![tactic(auto)]
 
-mod evaluation;
-mod expr;
 mod fault;
-pub mod laws;
+mod laws;
 mod names;
-mod polynomial;
 mod problem;
 mod reading;
 mod report;
-#[cfg(test)]
-mod tests;
-mod value;
 
+pub use ct_expr::{Expr, Summand, evaluate, evaluate_polynomial};
 pub use ct_io::Command;
-pub use evaluation::evaluate;
-pub use expr::{Expr, Summand};
 pub use fault::{BadInput, BadKind, ReadFault};
+pub use laws::{texts_stand_for_one_problem, texts_stand_for_one_report};
 pub use names::summed_names;
-pub use polynomial::evaluate_polynomial;
 pub use problem::{Gens, LetForm, Problem, Range};
-pub use reading::{read_found_report, read_problem};
+pub use reading::{MOST_BYTES, read_found_report, read_problem};
 pub use report::{Quotient, Report};

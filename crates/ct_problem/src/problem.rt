@@ -2,7 +2,7 @@
 ghost use Rattle.ct_problem.specs.WellFormed.{IsWellFormed};
 ghost use Rattle.ct_problem.specs.WellFormedProps.{IsWellFormed-prop};
 
-use crate::expr::Expr;
+use ct_expr::Expr;
 use ct_ore::Algebra;
 use sqlite_items::Items;
 

@@ -45,7 +45,7 @@ use ct_token::scan_text;
 use std::alloc::Global;
 
 /// The most bytes of a text.
-const MOST_BYTES: usize = 1 << 26;
+pub const MOST_BYTES: usize = 1 << 26;
 
 /// The problem that a text begins with, which has what the command needs, or the text's first fault. Behind
 /// the problem may come a report for `check`, and else nothing.

@@ -1,6 +1,6 @@
 // What the text of a report stands for.
 
-use crate::expr::Expr;
+use ct_expr::Expr;
 use sqlite_items::Items;
 
 /// What is put in front of a summed name's symbol: a numerator over a denominator.

@@ -8,11 +8,11 @@ use Rattle.ct_algebra.specs.Polynomial.{Polynomial}
 use Rattle.ct_algebra.specs.Certificate.{Certificate}
 use Rattle.ct_mono.specs.Checked.{both_fit, ◌>>=◌}
 use Rattle.ct_ore.specs.Naming.{Naming, actions_of, summed_of}
-use Rattle.ct_problem.specs.declared.expr.Expr.{Expr}
+use Rattle.ct_expr.specs.declared.expr.Expr.{Expr}
 use Rattle.ct_problem.specs.declared.report.Quotient.{Quotient}
 use Rattle.ct_problem.specs.declared.report.Report.{Report}
 use Rattle.ct_problem.specs.ReadProblem.{Reading}
-use Rattle.ct_problem.specs.Value.{value_of, checked_polynomial}
+use Rattle.ct_expr.specs.Value.{value_of, checked_polynomial}
 use Rattle.ct_problem.specs.WellFormed.{IsReportOn}
 use Rattle.ct_run.specs.Setup.{listed, checked_values, checked_setup}
 use Rattle.ct_run.specs.Checking.{checked_polynomials, checked_quotients, checked_certificate, summands_of}

@@ -14,13 +14,13 @@ use Rattle.ct_algebra.specs.Operators.{Operator}
 use Rattle.ct_algebra.specs.Certificate.{Summand, Certificate, Certifies}
 use Rattle.ct_mono.specs.Checked.{Checked, ◌>>=◌}
 use Rattle.ct_ore.specs.Naming.{Naming, actions_of, summed_of}
-use Rattle.ct_problem.specs.declared.expr.Expr.{Expr}
+use Rattle.ct_expr.specs.declared.expr.Expr.{Expr}
 use Rattle.ct_problem.specs.declared.problem.Range.{Range}
 use Rattle.ct_problem.specs.declared.report.Quotient.{Quotient}
 use Rattle.ct_problem.specs.declared.report.Report.{Report}
 use Rattle.ct_problem.specs.ReadProblem.{Reading, problem_of, is_empty, is_used}
 use Rattle.ct_problem.specs.ReadReport.{report_of}
-use Rattle.ct_problem.specs.Value.{value_of, checked_polynomial}
+use Rattle.ct_expr.specs.Value.{value_of, checked_polynomial}
 use Rattle.ct_cert.specs.declared.place.Support.{Support}
 use Rattle.ct_cert.specs.Tests.{tests}
 use Rattle.ct_run.specs.Output.{Output}

@@ -10,11 +10,11 @@ use Rattle.ct_algebra.specs.Operators.{Operator}
 use Rattle.ct_mono.specs.Checked.{Checked, ◌>>=◌}
 use Rattle.ct_mono.specs.declared.fault.Kind.{Kind}
 use Rattle.ct_ore.specs.Naming.{actions_of}
-use Rattle.ct_problem.specs.declared.expr.Expr.{Expr}
+use Rattle.ct_expr.specs.declared.expr.Expr.{Expr}
 use Rattle.ct_problem.specs.declared.problem.Gens.{Gens}
 use Rattle.ct_problem.specs.declared.problem.Gens.TheVariants.{Listed, Named}
 use Rattle.ct_problem.specs.ReadProblem.{Reading}
-use Rattle.ct_problem.specs.Value.{value_of}
+use Rattle.ct_expr.specs.Value.{value_of}
 
 abbrev pub listed : Gens → List Expr
 listed (Listed xs) = xs

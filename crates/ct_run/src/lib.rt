@@ -28,6 +28,3 @@ pub use ct_io::{
 };
 pub use status::Status;
 pub use top::run;
-
-#[cfg(test)]
-mod tests;

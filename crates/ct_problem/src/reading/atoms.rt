@@ -7,11 +7,11 @@ ghost use Rattle.ct_problem.specs.Expressions as spec;
 ghost use Rattle.ct_problem.specs.Input.{Reads};
 ghost use Rattle.ct_token.specs.declared.token.Symbol.TheVariants.{Word};
 
-use crate::expr::Expr;
 use crate::fault::{BadKind, ReadFault};
 use crate::reading::names::{Known, Names};
 use crate::reading::numbers::coming_number;
 use crate::reading::tokens::Tokens;
+use ct_expr::Expr;
 use ct_ore::Action;
 use ct_token::Symbol;
 

@@ -4,7 +4,6 @@ ghost use Rattle.ct_problem.specs.Draft.{reading_of_draft};
 ghost use Rattle.ct_problem.specs.Input.{ReadsBy};
 ghost use Rattle.ct_problem.specs.ReadProblem as spec;
 
-use crate::expr::Expr;
 use crate::fault::ReadFault;
 use crate::problem::{Gens, LetForm, Range};
 use crate::reading::declarations::declarations;
@@ -14,6 +13,7 @@ use crate::reading::lines::{header, value_lines};
 use crate::reading::names::Names;
 use crate::reading::problem_lines::{generators, range_line};
 use crate::reading::tokens::Tokens;
+use ct_expr::Expr;
 use sqlite_items::Items;
 use std::alloc::Global;
 

@@ -5,11 +5,11 @@ ghost use Rattle.ct_problem.specs.DenLines as spec;
 ghost use Rattle.ct_problem.specs.Input.{Reads, ReadsBy};
 ghost use Rattle.ct_problem.specs.Names.{summed_texts};
 
-use crate::expr::Expr;
 use crate::fault::{BadInput, BadKind, ReadFault};
 use crate::reading::lines::{no_more, value};
 use crate::reading::names::{Known, Names, summed_count};
 use crate::reading::tokens::Tokens;
+use ct_expr::Expr;
 use ct_mono::NoMemory;
 use ct_ore::{NameInfo, Role};
 use ct_token::Symbol;

@@ -5,12 +5,12 @@ ghost use Rattle.ct_problem.specs.Expressions as spec;
 ghost use Rattle.ct_problem.specs.Input.{Reads};
 ghost use Rattle.ct_problem.specs.Nests.{Nests};
 
-use crate::expr::{Expr, Summand};
 use crate::fault::{BadKind, ReadFault};
 use crate::reading::atoms::{constant, word};
 use crate::reading::names::Names;
 use crate::reading::numbers::number;
 use crate::reading::tokens::Tokens;
+use ct_expr::{Expr, Summand};
 use ct_mono::LARGEST_DEGREE;
 use ct_token::Symbol;
 use sqlite_items::{Boxed, Items};

@@ -6,7 +6,6 @@ ghost use Rattle.ct_problem.specs.Names.{is_new};
 ghost use Rattle.ct_problem.specs.Draft.{definition_of};
 ghost use Rattle.ct_problem.specs.ReadProblem.{definitions_of};
 
-use crate::expr::Expr;
 use crate::fault::{BadKind, ReadFault};
 use crate::problem::LetForm;
 use crate::reading::declarations::new_name;
@@ -14,6 +13,7 @@ use crate::reading::expressions::expression;
 use crate::reading::lines::no_more;
 use crate::reading::names::{Known, Names};
 use crate::reading::tokens::Tokens;
+use ct_expr::Expr;
 use ct_token::Symbol;
 use sqlite_items::Items;
 use std::alloc::Global;

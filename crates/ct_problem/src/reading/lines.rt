@@ -2,12 +2,12 @@
 ghost use Rattle.ct_problem.specs.Input.{Reads};
 ghost use Rattle.ct_problem.specs.Lines as spec;
 
-use crate::expr::Expr;
 use crate::fault::{BadKind, ReadFault};
 use crate::reading::expressions::expression;
 use crate::reading::names::Names;
 use crate::reading::numbers::exactly;
 use crate::reading::tokens::Tokens;
+use ct_expr::Expr;
 use sqlite_items::Items;
 use std::alloc::Global;
 

@@ -3,13 +3,13 @@ ghost use Rattle.std.specs.Prelude.{◌≡◌, ◌+◌, ◌<◌, ◌≤◌, leng
 ghost use Rattle.ct_problem.specs.Input.{Reads};
 ghost use Rattle.ct_problem.specs.ReportLines as spec;
 
-use crate::expr::Expr;
 use crate::fault::{BadKind, ReadFault};
 use crate::reading::lines::{header, part, value};
 use crate::reading::names::{Names, summed_texts};
 use crate::reading::numbers::{exactly, number};
 use crate::reading::tokens::Tokens;
 use crate::report::{Quotient, Report};
+use ct_expr::Expr;
 use sqlite_items::Items;
 use std::alloc::Global;
 

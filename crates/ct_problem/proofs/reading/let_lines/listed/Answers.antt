@@ -1,7 +1,7 @@
 use Rattle.std.proofs.Common.{rules, arith}
 use Rattle.std.proofs.lemmas.Grind.{common_steps}
 use Rattle.ct_problem.specs.LetLines.{listed_from}
-use Rattle.ct_problem.proofs.Turns.{one_more, no_more}
+use Rattle.ct_expr.proofs.Turns.{one_more, no_more}
 use Rattle.ct_problem.proofs.reading.let_lines.listed.Goals as goal
 
 pub returns-in_err-expression : goal.returns-in_err-expression

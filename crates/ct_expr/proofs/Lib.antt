@@ -1,0 +1,9 @@
+pub mod Turns
+pub mod Answering
+pub mod ValueArithmetic
+pub mod ValueSteps
+pub mod OverOne
+pub mod ExactValues
+pub mod Values
+pub mod CoefficientOfOne
+pub mod PolynomialValues

@@ -1,0 +1,3 @@
+pub mod ValueArithmetic
+pub mod Value
+pub mod ValueLaws

@@ -1,0 +1,43 @@
+-- What the values of expressions are besides.
+--     PolynomialsLoseNothing    the value of an expression without symbols is its coefficient of 1
+--     SumsAreExact, DifferencesAreExact    over the product of the whole numbers, a sum is that of the crosswise multiples
+--     ProductsAreExact          over the product of the whole numbers, a product is that of the operators
+-- With v = x/m and w = y/n and their sum r = z/k, the law says m·n·z = k·(n·x + m·y): the sum of the fractions without a quotient.
+use Rattle.std.specs.Prelude.{◌≡◌, ℕ, ◌*◌, Ok, IsTrue}
+use Rattle.ct_algebra.specs.Names.{Name}
+use Rattle.ct_algebra.specs.Monomial.{unit}
+use Rattle.ct_algebra.specs.Actions.{Action}
+use Rattle.ct_algebra.specs.Operators.{Operator, polynomial_at, sum_of_operators, product_of}
+use Rattle.ct_ore.specs.Measures.{difference_of_operators}
+use Rattle.ct_ore.specs.Wholes.{whole_operator}
+use Rattle.ct_expr.specs.declared.expr.Expr.{Expr}
+use Rattle.ct_expr.specs.Value.{value_of, has_no_symbol, operator_of_polynomial}
+use Rattle.ct_expr.specs.ValueArithmetic.{Value, IsValue, checked_plus, checked_minus, checked_times}
+
+abbrev pub PolynomialsLoseNothing : Type 0
+PolynomialsLoseNothing =
+    (a : Name → Action) (x : Expr) (v : Operator) → value_of a x ≡ Ok v → IsTrue (has_no_symbol x) →
+    v ≡ operator_of_polynomial (polynomial_at v unit)
+
+module _ (a : Name → Action) where
+  -- n times an operator
+  abbrev pub scaled : ℕ → Operator → Operator
+  scaled n x = product_of a (whole_operator n) x
+
+  -- r has the value that an operation makes of v and w, once both stand over the product of their whole numbers
+  abbrev pub IsJoined : (Operator → Operator → Operator) → Value → Value → Value → Type 0
+  IsJoined operation v w r =
+      scaled (v.whole * w.whole) r.operator ≡ scaled r.whole (operation (scaled w.whole v.operator) (scaled v.whole w.operator))
+
+abbrev pub SumsAreExact : Type 0
+SumsAreExact =
+    (a : Name → Action) (v w r : Value) → IsValue v → IsValue w → checked_plus a v w ≡ Ok r → IsJoined a sum_of_operators v w r
+
+abbrev pub DifferencesAreExact : Type 0
+DifferencesAreExact =
+    (a : Name → Action) (v w r : Value) → IsValue v → IsValue w → checked_minus a v w ≡ Ok r → IsJoined a difference_of_operators v w r
+
+abbrev pub ProductsAreExact : Type 0
+ProductsAreExact =
+    (a : Name → Action) (v w r : Value) → IsValue v → IsValue w → checked_times a v w ≡ Ok r →
+    scaled a (v.whole * w.whole) r.operator ≡ scaled a r.whole (product_of a v.operator w.operator)

@@ -1,0 +1,22 @@
+// The laws of the values of expressions, as functions with no code.
+ghost use Rattle.ct_expr.specs.ValueLaws.{PolynomialsLoseNothing, SumsAreExact, DifferencesAreExact, ProductsAreExact};
+
+/// The value of an expression without symbols is its coefficient of 1.
+pub fn polynomials_lose_nothing()
+    ensures { PolynomialsLoseNothing }
+{}
+
+/// A sum of values is the sum of the fractions.
+pub fn sums_are_exact()
+    ensures { SumsAreExact }
+{}
+
+/// A difference of values is the difference of the fractions.
+pub fn differences_are_exact()
+    ensures { DifferencesAreExact }
+{}
+
+/// A product of values is the product of the fractions.
+pub fn products_are_exact()
+    ensures { ProductsAreExact }
+{}

@@ -1,5 +1,0 @@
-use Rattle.ct_problem.proofs.ExactValues as exact
-use Rattle.ct_problem.proofs.laws.differences_are_exact.Goals as goal
-
-pub returns : goal.returns
-returns c = exact.differences_are_exact

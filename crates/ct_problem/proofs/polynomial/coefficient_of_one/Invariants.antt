@@ -1,6 +1,0 @@
-use Rattle.std.proofs.Common.{drop}
-use Rattle.ct_problem.proofs.CoefficientOfOne.{IsLeft}
-use Rattle.ct_problem.proofs.polynomial.coefficient_of_one.Given as goal
-
-abbrev pub invariant-loop-term : goal.invariant-loop-term
-invariant-loop-term l = IsLeft l.value (drop l.term-index l.term-items)
