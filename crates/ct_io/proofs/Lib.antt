@@ -1,1 +1,2 @@
 mod ReadPiece
+mod FrontRead

@@ -3,6 +3,7 @@
 --     next_count n        the count after one more
 --     Rose before now     a fault was counted since
 --     IsCounted before now result   the call fails only where a fault was counted, and else counts none
+--     Tells failed before now       the same of an answer that can say so in another way
 -- A count that stands at `largest_count` counts as risen, since one more fault could not be told from none.
 -- The contracts of `Source`, `Sink` and all that reads or writes through them cite it.
 use Rattle.std.specs.Prelude.{◌≡◌, ℕ, ◌+◌, ◌-◌, ◌^◌, ◌≤◌, min, OnErr, OnOk, Result}
@@ -24,3 +25,9 @@ pub record IsCounted {T E : Type 0} (before now : ℕ) (result : Result T E) : T
   pub later : before ≤ now
   pub unchanged : OnOk result (now ≡ before)
   pub failed : OnErr result (Rose before now)
+
+-- a failure is told only where a fault was counted, and none was counted where it is not told
+pub record Tells (failed : Type 0) (before now : ℕ) : Type 0 where
+  pub later : before ≤ now
+  pub rose : failed → Rose before now
+  pub unchanged : ¬ failed → now ≡ before

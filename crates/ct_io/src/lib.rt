@@ -8,6 +8,8 @@
 //! `StdSource` and `StdSink` adapt a reader and a writer of the library: they tell no bytes, and pass on what
 //! the reader gives and the writer takes.
 //!
+//! `read_up_to` reads a source to its end or to a limit, and `write_all` writes a text whole or fails.
+//!
 //! A `Gate` is told of each attempt and of each column that is made. It answers nothing and has no meaning that
 //! a contract could cite, so no answer of the system depends on it: a gate can only count, or hold a worker
 //! back for a bounded time. The program hands in `NoGate`.
@@ -16,17 +18,21 @@
 mod command;
 mod gate;
 mod memory;
+mod reading;
 mod sink;
 mod source;
 mod standard;
+mod writing;
 
 pub use command::Command;
 pub use gate::{Gate, NoGate};
 pub use memory::{MemSink, MemSource};
+pub use reading::{SourceFault, read_up_to};
 pub use sink::Sink;
 pub use source::{Failed, Source};
 pub use standard::{StdSink, StdSource};
 pub use std::alloc::AllocError as NoMemory;
+pub use writing::write_all;
 
 #[cfg(test)]
 mod tests;

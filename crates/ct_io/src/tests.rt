@@ -1,5 +1,8 @@
 // The fakes and the adapters at work, through the bounds that the reading and the writing see.
-use crate::{Failed, Gate, MemSink, MemSource, NoGate, Sink, Source, StdSink, StdSource};
+use crate::{
+    Failed, Gate, MemSink, MemSource, NoGate, Sink, Source, SourceFault, StdSink, StdSource,
+    read_up_to, write_all,
+};
 use std::io;
 use std::io::Write;
 use std::test::Fail;
@@ -57,6 +60,45 @@ fn a_sink_over_memory_takes_what_it_has_room_for(rt: HostRuntime) -> Result<(), 
     assert_eq!(rt; write_to(&mut sink, b"f"), Err(Failed));
     assert_eq!(rt; write_to(&mut sink, b""), Ok(0));
     assert_eq!(rt; sink.written(), b"abcde".as_slice());
+    Ok(())
+}
+
+#[test]
+fn a_source_is_read_up_to_a_limit(rt: HostRuntime) -> Result<(), Fail> {
+    let alloc = rt.alloc();
+    let cases = [
+        (0, "", "abcdefg"),
+        (1, "a", "bcdefg"),
+        (6, "abcdef", "g"),
+        (7, "abcdefg", ""),
+        (100, "abcdefg", ""),
+    ];
+    for (most, front, left) in cases {
+        let text = Vec::from_slice(alloc, b"abcdefg")?;
+        let mut source = MemSource::new(text, 3, Vec::new(alloc));
+        let bytes = read_up_to(alloc, &mut source, most);
+        assert!(rt;
+            matches!(&bytes, Ok(bytes) if bytes.as_slice() == front.as_bytes()),
+            "{most}"
+        );
+        assert_eq!(rt; source.unread(), left.as_bytes(), "{most}");
+    }
+    let text = Vec::from_slice(alloc, b"abcdefg")?;
+    let mut source = MemSource::new(text, 3, Vec::from_slice(alloc, &[1])?);
+    let bytes = read_up_to(alloc, &mut source, 100);
+    assert!(rt; matches!(&bytes, Err(SourceFault::Failed)));
+    assert_eq!(rt; source.unread(), b"defg".as_slice());
+    Ok(())
+}
+
+#[test]
+fn a_text_is_written_whole_or_fails(rt: HostRuntime) -> Result<(), Fail> {
+    let alloc = rt.alloc();
+    let mut sink = MemSink::new(alloc, 7, 3, Vec::new(alloc))?;
+    assert_eq!(rt; write_all(&mut sink, b"abcde"), Ok(()));
+    assert_eq!(rt; sink.written(), b"abcde".as_slice());
+    assert_eq!(rt; write_all(&mut sink, b"fgh"), Err(Failed));
+    assert_eq!(rt; sink.written(), b"abcdefg".as_slice());
     Ok(())
 }
 

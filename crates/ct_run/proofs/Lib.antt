@@ -1,4 +1,3 @@
-mod FrontRead
 mod Reported
 mod Parts
 mod CertificateFits

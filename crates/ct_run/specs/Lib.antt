@@ -10,6 +10,5 @@ pub mod Reductions
 pub mod Fractions
 pub mod Out
 pub mod Run
-pub mod Reading
 pub use Rattle.ct_io.specs.Faults
 pub use Rattle.ct_io.specs.Memory

@@ -5,10 +5,10 @@
 --     TellsFault status fault before now   a fault was counted just where the status is this fault's
 -- A sink that fails has taken a front of the text. A run that wants memory has written nothing.
 -- `run` cites it.
-use Rattle.std.specs.Prelude.{◌≡◌, ◌≢◌, ℕ, ◌+◌, ◌≤◌, List, drop, Option, Some}
+use Rattle.std.specs.Prelude.{◌≡◌, ℕ, ◌+◌, List, drop, Option, Some}
 use Rattle.std.specs.Io.{StartsWith}
 use Rattle.std.specs.Io.KnownBytes.{Appends, Keeps}
-use Rattle.ct_io.specs.Faults.{Rose}
+use Rattle.ct_io.specs.Faults.{Tells}
 use Rattle.ct_run.specs.Output.{Output}
 use Rattle.ct_run.specs.Out.{largest_text}
 use Rattle.ct_run.specs.Status.{status_of}
@@ -29,7 +29,5 @@ LeavesAfter bytes NoMemory left = Unit {0}
 LeavesAfter bytes status left = Keeps (Some (drop (largest_text + 1) bytes)) left
 
 -- the status is this fault's only where a fault was counted, and none was where it is another
-pub record TellsFault (status fault : Status) (before now : ℕ) : Type 0 where
-  pub later : before ≤ now
-  pub rose : status ≡ fault → Rose before now
-  pub unchanged : status ≢ fault → now ≡ before
+abbrev pub TellsFault : Status → Status → ℕ → ℕ → Type 0
+TellsFault status fault before now = Tells (status ≡ fault) before now

@@ -14,7 +14,7 @@ use ct_io::{Command, NoMemory};
 use ct_problem::{Problem, ReadFault, read_problem};
 use std::alloc::Global;
 
-/// What is given out for a command and a text, of which the first `LARGEST_TEXT + 1` bytes are enough.
+/// What is given out for a command and a text, of which the first `MOST_BYTES + 1` bytes are enough.
 #[tactic(auto, unfolding(crate::specs::Out::out))]
 pub(crate) fn answer(alloc: Global, command: Command, bytes: &[u8]) -> Result<Output, NoMemory>
     ensures value { IfOk result (λ output. output_of output ≡ spec.out command bytes.now) }

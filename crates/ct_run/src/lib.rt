@@ -13,7 +13,6 @@ mod bad_input;
 mod checking;
 mod lines;
 mod output;
-mod reading;
 mod reducing;
 mod reductions;
 mod setup;

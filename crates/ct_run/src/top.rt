@@ -6,11 +6,11 @@ ghost use Rattle.ct_run.specs.Run.{LeavesAfter, Reports, TellsFault};
 ghost use Rattle.ct_run.specs.Words.{words_of};
 
 use crate::answer::answer;
-use crate::reading::{TextFault, read_all};
 use crate::status::{Outcome, Status};
 use crate::words::read_words;
 use crate::writing::give_out;
-use ct_io::{Command, Gate, Sink, Source};
+use ct_io::{Command, Gate, Sink, Source, SourceFault, read_up_to};
+use ct_problem::MOST_BYTES;
 use std::alloc::Global;
 use std::thread::Threads;
 
@@ -54,10 +54,10 @@ fn answer_text<S: Source, K: Sink>(
     ensures read_fault { TellsFault result Status.ReadFault (S.faults source.old) (S.faults source.new) }
     ensures write_fault { TellsFault result Status.WriteFault (K.faults sink.old) (K.faults sink.new) }
 {
-    let bytes = match read_all(alloc, source) {
+    let bytes = match read_up_to(alloc, source, MOST_BYTES + 1) {
         Ok(bytes) => bytes,
-        Err(TextFault::Failed) => return Status::ReadFault,
-        Err(TextFault::NoMemory) => return Status::NoMemory,
+        Err(SourceFault::Failed) => return Status::ReadFault,
+        Err(SourceFault::NoMemory) => return Status::NoMemory,
     };
     match answer(alloc, command, bytes.as_slice()) {
         Ok(output) => give_out(sink, output.outcome, output.text.as_slice()),
