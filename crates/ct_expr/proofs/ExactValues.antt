@@ -100,7 +100,7 @@ sum_told : (x y r : Operator) → checked_sum x y ≡ Ok r → sum_of_operators 
 unfolding checked_sum
 sum_told x y r e = verdict_ok _ _ r e
 
-difference_told : (x y r : Operator) → checked_difference x y ≡ Ok r → difference_of_operators x y ≡ r
+pub difference_told : (x y r : Operator) → checked_difference x y ≡ Ok r → difference_of_operators x y ≡ r
 unfolding checked_difference
 difference_told x y r e = verdict_ok _ _ r e
 

@@ -6,4 +6,6 @@ pub mod OverOne
 pub mod ExactValues
 pub mod Values
 pub mod CoefficientOfOne
+pub mod ValueInduction
 pub mod PolynomialValues
+pub mod LowestValues

@@ -1,5 +1,5 @@
--- The value of an expression without symbols is a polynomial. Main lemma `polynomials_lose_nothing`, by induction on the
--- expression: sums, differences and products of polynomials are polynomials.
+-- The value of an expression without symbols is a polynomial. Main lemma `polynomials_lose_nothing`, since sums, differences
+-- and products of polynomials are polynomials.
 use Rattle.std.proofs.Common.{◌≡◌, ℕ, zero, suc, Bool, true, false, List, [], ◌∷◌, map, Option, Some, None, Ok, pos, unsigned_abs, refl, sym, ap, ap₂, ◌∙◌, subst}
 use Rattle.std.proofs.lemmas.Bool.{false≢true}
 use Rattle.ct_algebra.specs.Group.{hom_neg}
@@ -18,15 +18,11 @@ use Rattle.ct_ore.specs.Measures.{checked_sum, checked_difference, checked_produ
 use Rattle.ct_ore.specs.Wholes.{whole_operator, common_divisor, over_whole, entry_over, checked_multiple}
 use Rattle.ct_ore.proofs.OperatorMeasures.{terms-term_of}
 use Rattle.ct_ore.proofs.WrittenOperators.{terms-no_operator}
-use Rattle.ct_expr.specs.declared.expr.Expr.{Expr, roll-Expr}
-use Rattle.ct_expr.specs.declared.expr.Expr.TheFolds.{fold-roll-Expr, fold-roll-Summand, ind-Expr, map-Expr, map-Summand}
-use Rattle.ct_expr.specs.declared.expr.Expr.TheOpen.{Expr-F, Summand-F}
-use Rattle.ct_expr.specs.declared.expr.Summand.{Summand, roll-Summand}
 use Rattle.ct_expr.specs.ValueArithmetic.{Value, over_one, lowest, negated, checked_plus, checked_minus, checked_times}
-use Rattle.ct_expr.specs.Value.{joined, multiplied, one_value, operator_of_polynomial, ratio, or_else, power_from, product_from, sum_from, value_of, fraction_of, fraction_of_term, value_step, has_no_symbol, has_no_symbol_term, no_symbol_step, all_true}
+use Rattle.ct_expr.specs.Value.{operator_of_polynomial, value_of, fraction_of, has_no_symbol, no_symbol_step}
 use Rattle.ct_expr.specs.ValueLaws.{PolynomialsLoseNothing}
 use Rattle.ct_expr.proofs.ValueSteps.{plus_steps, minus_steps, times_steps}
-use Rattle.ct_expr.proofs.Values.{both}
+use Rattle.ct_expr.proofs.ValueInduction.{Keeps, values_keep}
 
 -- ---- polynomials among operators
 
@@ -128,99 +124,27 @@ checked_times-plain a v w r p q e =
     let s = times_steps a v w r e in
     subst IsPlainValue s.last (lowest-plain s.product s.whole (checked_product-plain a v.operator w.operator s.product p q s.operators))
 
--- what was added up or multiplied so far
-abbrev SoFar : Option Value → Type 0
-SoFar None = Unit {0}
-SoFar (Some v) = IsPlainValue v
-
-so_far-or : (other : Value) (o : Option Value) → IsPlainValue other → SoFar o → IsPlainValue (or_else other o)
-so_far-or other None p so = p
-so_far-or other (Some v) p so = so
-
-one_plain : IsPlainValue one_value
-one_plain = (_, refl)
-
-module _ (a : Name → Action) where
-  joined-plain : (o : Option Value) (negative : Bool) (w r : Value) → SoFar o → IsPlainValue w → joined a o negative w ≡ Ok r → IsPlainValue r
-  joined-plain None true w r so p e = negated-plain w r p e
-  joined-plain None false w r so p e = let same : w ≡ r = cc in subst IsPlainValue same p
-  joined-plain (Some v) true w r so p e = checked_minus-plain a v w r so p e
-  joined-plain (Some v) false w r so p e = checked_plus-plain a v w r so p e
-
-  multiplied-plain : (o : Option Value) (w r : Value) → SoFar o → IsPlainValue w → multiplied a o w ≡ Ok r → IsPlainValue r
-  multiplied-plain None w r so p e = let same : w ≡ r = cc in subst IsPlainValue same p
-  multiplied-plain (Some v) w r so p e = checked_times-plain a v w r so p e
-
-  power-plain : (so base r : Value) (n : ℕ) → IsPlainValue so → IsPlainValue base → power_from a so n base ≡ Ok r → IsPlainValue r
-  unfolding power_from
-  power-plain so base r zero p q e = let same : so ≡ r = cc in subst IsPlainValue same p
-  power-plain so base r (suc n) p q e =
-      let steps = both_fit (checked_times a so base) (λ more. power_from a more n base) r e in
-      power-plain steps.value base r n (checked_times-plain a so base steps.value p q steps.first) q steps.rest
-
-  -- ---- expressions
-
-  -- its value is a polynomial, if it has no symbol
-  abbrev Claim : Expr → Type 0
-  Claim x = (v : Value) → fraction_of a x ≡ Ok v → has_no_symbol x ≡ true → IsPlainValue v
-
-  abbrev TermClaim : Summand → Type 0
-  TermClaim t = (v : Value) → (fraction_of_term a t).1 ≡ Ok v → has_no_symbol_term t ≡ true → IsPlainValue v
-
-  terms-plain : (ts : List ((t : Summand) × TermClaim t)) (o : Option Value) (r : Value) → SoFar o
-      → all_true (map has_no_symbol_term (map (λ t. t.0) ts)) ≡ true → sum_from a o (map (fraction_of_term a) (map (λ t. t.0) ts)) ≡ Ok r → IsPlainValue r
-  unfolding sum_from
-  terms-plain [] o r so none e = let same : or_else (over_one no_operator) o ≡ r = cc in subst IsPlainValue same (so_far-or (over_one no_operator) o plain_zero so)
-  terms-plain (t ∷ ts) o r so none e =
-      let parts = both (has_no_symbol_term t.0) (all_true (map has_no_symbol_term (map (λ t. t.0) ts))) none in
-      let rest = λ (more : Value). sum_from a (Some more) (map (fraction_of_term a) (map (λ t. t.0) ts)) in
-      let first = both_fit (fraction_of_term a t.0).1 (λ x. joined a o (fraction_of_term a t.0).0 x >>= rest) r e in
-      let second = both_fit (joined a o (fraction_of_term a t.0).0 first.value) rest r first.rest in
-      terms-plain ts (Some second.value) r (joined-plain o (fraction_of_term a t.0).0 first.value second.value so (t.1 first.value first.first parts.0) second.first) parts.1 second.rest
-
-  factors-plain : (fs : List ((x : Expr) × Claim x)) (o : Option Value) (r : Value) → SoFar o
-      → all_true (map has_no_symbol (map (λ x. x.0) fs)) ≡ true → product_from a o (map (fraction_of a) (map (λ x. x.0) fs)) ≡ Ok r → IsPlainValue r
-  unfolding product_from
-  factors-plain [] o r so none e = let same : or_else one_value o ≡ r = cc in subst IsPlainValue same (so_far-or one_value o one_plain so)
-  factors-plain (f ∷ fs) o r so none e =
-      let parts = both (has_no_symbol f.0) (all_true (map has_no_symbol (map (λ x. x.0) fs))) none in
-      let rest = λ (more : Value). product_from a (Some more) (map (fraction_of a) (map (λ x. x.0) fs)) in
-      let first = both_fit (fraction_of a f.0) (λ x. multiplied a o x >>= rest) r e in
-      let second = both_fit (multiplied a o first.value) rest r first.rest in
-      factors-plain fs (Some second.value) r (multiplied-plain o first.value second.value so (f.1 first.value first.first parts.0) second.first) parts.1 second.rest
-
-  layer-plain : (y : Expr-F ((x : Expr) × Claim x) ((t : Summand) × TermClaim t)) → Claim (roll-Expr (map-Expr _ _ _ _ (λ x. x.0) (λ t. t.0) y))
-  unfolding fraction_of fraction_of_term has_no_symbol has_no_symbol_term value_step no_symbol_step
-  layer-plain (Expr-F.Whole n) v e none =
-      let same : Ok (over_one (operator_of_polynomial (number n))) ≡ Ok v = sym (fold-roll-Expr _ _ _ _ _) ∙ e in
-      let value : over_one (operator_of_polynomial (number n)) ≡ v = cc in
-      (number n, ap (λ (w : Value). w.operator) (sym value))
-  layer-plain (Expr-F.Ratio n d) v e none =
-      let same : Ok (ratio n d) ≡ Ok v = sym (fold-roll-Expr _ _ _ _ _) ∙ e in
-      let value : ratio n d ≡ v = cc in
-      subst IsPlainValue value (lowest-plain (operator_of_polynomial (number n)) (unsigned_abs d) (number n, refl))
-  layer-plain (Expr-F.Name i) v e none =
-      let same : Ok (over_one (operator_of_polynomial (name (name_with i)))) ≡ Ok v = sym (fold-roll-Expr _ _ _ _ _) ∙ e in
-      let value : over_one (operator_of_polynomial (name (name_with i))) ≡ v = cc in
-      (name (name_with i), ap (λ (w : Value). w.operator) (sym value))
-  layer-plain (Expr-F.Symbol i) v e none =
-      let no : false ≡ true = sym (fold-roll-Expr _ _ _ _ _) ∙ none in absurd (false≢true no)
-  layer-plain (Expr-F.Sum ts) v e none = terms-plain ts None v tt (sym (fold-roll-Expr _ _ _ _ _) ∙ none) (sym (fold-roll-Expr _ _ _ _ _) ∙ e)
-  layer-plain (Expr-F.Product fs) v e none = factors-plain fs None v tt (sym (fold-roll-Expr _ _ _ _ _) ∙ none) (sym (fold-roll-Expr _ _ _ _ _) ∙ e)
-  layer-plain (Expr-F.Power base n) v e none =
-      let steps = both_fit (fraction_of a base.0) (λ x. power_from a one_value n x) v (sym (fold-roll-Expr _ _ _ _ _) ∙ e) in
-      power-plain one_value steps.value v n one_plain (base.1 steps.value steps.first (sym (fold-roll-Expr _ _ _ _ _) ∙ none)) steps.rest
-
-  term-plain : (y : Summand-F ((x : Expr) × Claim x) ((t : Summand) × TermClaim t)) → TermClaim (roll-Summand (map-Summand _ _ _ _ (λ x. x.0) (λ t. t.0) y))
-  unfolding fraction_of fraction_of_term has_no_symbol has_no_symbol_term
-  term-plain y v e none = y.expr.1 v (ap (λ (s : Bool × Checked Value). s.1) (sym (fold-roll-Summand _ _ _ _ _)) ∙ e) (sym (fold-roll-Summand _ _ _ _ _) ∙ none)
-
-  values-plain : (x : Expr) → Claim x
-  values-plain = ind-Expr Claim TermClaim (λ x y is. subst (λ z. Claim (roll-Expr z)) is (layer-plain y)) (λ x y is. subst (λ z. TermClaim (roll-Summand z)) is (term-plain y))
+plain_keeps : (a : Name → Action) → Keeps a IsPlainValue no_symbol_step
+unfolding no_symbol_step
+plain_keeps a = record {
+  nothing = plain_zero;
+  one = (_, refl);
+  negates = negated-plain;
+  adds = checked_plus-plain a;
+  subtracts = checked_minus-plain a;
+  multiplies = checked_times-plain a;
+  of_whole = λ n none. (number n, refl);
+  of_ratio = λ n d none. lowest-plain (operator_of_polynomial (number n)) (unsigned_abs d) (number n, refl);
+  of_name = λ i none. (name (name_with i), refl);
+  of_symbol = λ i none. absurd (false≢true none);
+  sums = λ bs. refl;
+  products = λ bs. refl;
+  powers = λ b n. refl;
+}
 
 pub polynomials_lose_nothing : PolynomialsLoseNothing
-unfolding value_of
+unfolding value_of has_no_symbol
 polynomials_lose_nothing a x v e none =
     let step = both_fit (fraction_of a x) (λ (w : Value). let r : Checked Operator = Ok w.operator in r) v e in
     let same : step.value.operator ≡ v = let e = step.rest in cc in
-    plain_is v (subst IsPlain same (values-plain a x step.value step.first none))
+    plain_is v (subst IsPlain same (values_keep (plain_keeps a) x step.value step.first none))

@@ -11,6 +11,7 @@
 --     checked_times a v w   the product of the operators, and then that of the whole numbers
 -- What they mean is said by the laws of `ValueLaws`.
 use Rattle.std.specs.Prelude.{◌≡◌, refl, ℕ, ◌*◌, ◌/◌, ◌<◌, ◌≤◌, Ok}
+use Rattle.std.specs.Int.{◌∣◌}
 use Rattle.std.specs.Coded.{Coded, code_by, coded×, coded_ℕ}
 use Rattle.ct_algebra.specs.Names.{Name}
 use Rattle.ct_algebra.specs.Actions.{Action}
@@ -20,7 +21,7 @@ use Rattle.ct_mono.specs.Limits.{largest_norm}
 use Rattle.ct_mono.specs.Checked.{Checked, ◌>>=◌}
 use Rattle.ct_poly.specs.Wholes.{checked_whole}
 use Rattle.ct_ore.specs.Measures.{checked_sum, checked_difference, checked_product}
-use Rattle.ct_ore.specs.Wholes.{common_divisor, over_whole, checked_multiple}
+use Rattle.ct_ore.specs.Wholes.{DividesOperator, common_divisor, over_whole, checked_multiple}
 use Rattle.ct_expr.specs.declared.value.Cleared.{Cleared}
 
 pub record Value : Type 0 where
@@ -37,7 +38,7 @@ pub record IsValue (v : Value) : Type 0 where
   pub within : v.whole ≤ largest_norm
 
 abbrev pub IsLowest : Value → Type 0
-IsLowest v = common_divisor v.operator v.whole ≡ 1
+IsLowest v = (d : ℕ) → d ∣ v.whole → DividesOperator d v.operator → d ≡ 1
 
 abbrev pub over_one : Operator → Value
 over_one x = record { operator = x; whole = 1 }

@@ -1,4 +1,5 @@
 -- What the values of expressions are besides.
+--     ValuesAreLowest           a value is in lowest terms, over a whole number from 1 to the greatest coefficient
 --     PolynomialsLoseNothing    the value of an expression without symbols is its coefficient of 1
 --     SumsAreExact, DifferencesAreExact    over the product of the whole numbers, a sum is that of the crosswise multiples
 --     ProductsAreExact          over the product of the whole numbers, a product is that of the operators
@@ -11,8 +12,11 @@ use Rattle.ct_algebra.specs.Operators.{Operator, polynomial_at, sum_of_operators
 use Rattle.ct_ore.specs.Measures.{difference_of_operators}
 use Rattle.ct_ore.specs.Wholes.{whole_operator}
 use Rattle.ct_expr.specs.declared.expr.Expr.{Expr}
-use Rattle.ct_expr.specs.Value.{value_of, has_no_symbol, operator_of_polynomial}
-use Rattle.ct_expr.specs.ValueArithmetic.{Value, IsValue, checked_plus, checked_minus, checked_times}
+use Rattle.ct_expr.specs.Value.{fraction_of, is_evaluable, value_of, has_no_symbol, operator_of_polynomial}
+use Rattle.ct_expr.specs.ValueArithmetic.{Value, IsLowest, IsValue, checked_plus, checked_minus, checked_times}
+
+abbrev pub ValuesAreLowest : Type 0
+ValuesAreLowest = (a : Name → Action) (x : Expr) (v : Value) → fraction_of a x ≡ Ok v → IsTrue (is_evaluable x) → IsValue v × IsLowest v
 
 abbrev pub PolynomialsLoseNothing : Type 0
 PolynomialsLoseNothing =

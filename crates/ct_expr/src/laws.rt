@@ -1,5 +1,10 @@
 // The laws of the values of expressions, as functions with no code.
-ghost use Rattle.ct_expr.specs.ValueLaws.{PolynomialsLoseNothing, SumsAreExact, DifferencesAreExact, ProductsAreExact};
+ghost use Rattle.ct_expr.specs.ValueLaws.{ValuesAreLowest, PolynomialsLoseNothing, SumsAreExact, DifferencesAreExact, ProductsAreExact};
+
+/// The value of an expression is in lowest terms.
+pub fn values_are_lowest()
+    ensures { ValuesAreLowest }
+{}
 
 /// The value of an expression without symbols is its coefficient of 1.
 pub fn polynomials_lose_nothing()

@@ -20,5 +20,6 @@ pub use evaluation::evaluate;
 pub use expr::{Expr, Summand};
 pub use laws::{
     differences_are_exact, polynomials_lose_nothing, products_are_exact, sums_are_exact,
+    values_are_lowest,
 };
 pub use polynomial::evaluate_polynomial;

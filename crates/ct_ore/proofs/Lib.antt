@@ -26,5 +26,6 @@ pub mod Expansion
 pub mod Runs
 pub mod OneTerm
 pub mod WholeDivisors
+pub mod LowestQuotients
 pub mod WholeMultiples
 pub mod WholeLaws

@@ -124,7 +124,7 @@ pub over_one : (p : Operator) → over_whole 1 p ≡ p
 unfolding over_whole
 over_one p = ap operator_of (over_one_list p.terms) ∙ operator_laws.sums_of_terms.of_its_own p
 
-quotient_terms : (d : ℕ) (c : Polynomial) → DividesEach d c → (divided unit (pos d) c).terms ≡ quotients unit (pos d) c.terms
+pub quotient_terms : (d : ℕ) (c : Polynomial) → DividesEach d c → (divided unit (pos d) c).terms ≡ quotients unit (pos d) c.terms
 quotient_terms d c all = divided_terms unit (pos d) c (each_divides d c.terms all)
 
 some_left : (d : ℕ) (c : Polynomial) → DividesEach d c → T (cond (has_none monomials int_group c.terms) false true) → T (cond (has_none monomials int_group (divided unit (pos d) c).terms) false true)
@@ -143,7 +143,7 @@ canonical_over d [] all canonical = tt
 canonical_over d (e ∷ es) all canonical =
     (some_left d e.1 all.0 canonical.0, below_over d e.0 es canonical.1, canonical_over d es all.1 canonical.2)
 
-over_terms : (d : ℕ) (p : Operator) → DividesOperator d p → (over_whole d p).terms ≡ map (entry_over d) p.terms
+pub over_terms : (d : ℕ) (p : Operator) → DividesOperator d p → (over_whole d p).terms ≡ map (entry_over d) p.terms
 unfolding over_whole
 over_terms d p all = terms-operator_of (map (entry_over d) p.terms) (canonical_over d p.terms all p.canonical)
 

@@ -76,7 +76,7 @@ part_whole p = divided_whole (common_monomial p) (signed_content p) p (part_goes
 
 -- ---- nothing more divides them
 
-times_each :
+pub times_each :
     (x : ℕ) (m : Mono) (d : ℤ) (es : List (Mono × ℤ)) → IsCanonical monomials int_group es → EachTerm (TermDivides m d) es →
     DividesAll x (quotients m d es) → DividesAll (x * unsigned_abs d) es
 times_each x m d [] canonical each all = tt

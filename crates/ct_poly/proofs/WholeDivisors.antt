@@ -1,15 +1,17 @@
--- A whole number that divides each coefficient divides each term. Main lemmas `each_divides`, which `over_whole` cites, and
--- `divided_by_one`.
-use Rattle.std.specs.Prelude.{◌≡◌, ℕ, ◌*◌, ◌/◌, ℤ, pos, negsuc, neg_ℤ, ◌*ℤ◌, unsigned_abs, List, [], ◌∷◌}
-use Rattle.std.proofs.Common.{◌∙◌, ap, sym, arith}
+-- A whole number that divides each coefficient divides each term. Main lemmas `each_divides`, which `over_whole` cites,
+-- `divided_by_one`, and `divides_negative`.
+use Rattle.std.specs.Prelude.{◌≡◌, refl, ℕ, zero, suc, ◌*◌, ◌/◌, ℤ, pos, negsuc, neg_ℤ, ◌*ℤ◌, unsigned_abs, true, false, cond, List, [], ◌∷◌, map}
+use Rattle.std.specs.Int.{◌∣◌}
+use Rattle.std.proofs.Common.{◌∙◌, ap, sym, subst, arith, T}
 use Rattle.std.proofs.Math.Nat.{div-mul_cancel, one-dvd}
-use Rattle.ct_algebra.specs.Monomial.{Mono, unit, exp-unit}
-use Rattle.ct_algebra.specs.Polynomial.{Polynomial, polys, times}
+use Rattle.ct_algebra.specs.Monomial.{Mono, monomials, unit, exp-unit}
+use Rattle.ct_algebra.specs.Polynomial.{Polynomial, polys, poly_of, terms-poly_of, times}
 use Rattle.ct_algebra.specs.Ring.{neg_mul}
 use Rattle.ct_algebra.specs.Substitution.{number_is, one_is}
-use Rattle.ct_algebra.specs.Terms.{EachTerm}
-use Rattle.ct_algebra.specs.WholeNumbers.{int_ring}
-use Rattle.ct_poly.specs.Content.{DividesAll, TermDivides, divided}
+use Rattle.ct_algebra.specs.Sums.{negated}
+use Rattle.ct_algebra.specs.Terms.{AllBelow, EachTerm, IsCanonical}
+use Rattle.ct_algebra.specs.WholeNumbers.{int_group, int_is_zero, int_ring}
+use Rattle.ct_poly.specs.Content.{DividesAll, DividesEach, TermDivides, divided}
 use Rattle.ct_poly.proofs.CommonMonomials.{exp_divides}
 use Rattle.ct_poly.proofs.DividedTerms.{divided_whole}
 
@@ -36,3 +38,37 @@ pub divided_by_one : (p : Polynomial) → divided unit (pos 1) p ≡ p
 divided_by_one p =
     sym (one_times (divided unit (pos 1) p)) ∙ ap (λ w. times w (divided unit (pos 1) p)) (one_is ∙ number_is (pos 1))
     ∙ divided_whole unit (pos 1) p (each_divides 1 p.terms (one_divides p.terms))
+
+-- ---- negatives
+
+abbrev negatives : List (Mono × ℤ) → List (Mono × ℤ)
+negatives es = map (λ e. (e.0, neg_ℤ e.1)) es
+
+nonzero-neg : (c : ℤ) → T (cond (int_is_zero c) false true) → T (cond (int_is_zero (neg_ℤ c)) false true)
+nonzero-neg (pos zero) some = some
+nonzero-neg (pos (suc n)) some = tt
+nonzero-neg (negsuc n) some = tt
+
+below-negatives : (m : Mono) (es : List (Mono × ℤ)) → AllBelow monomials int_group m es → AllBelow monomials int_group m (negatives es)
+below-negatives m [] below = tt
+below-negatives m (e ∷ es) below = (below.0, below-negatives m es below.1)
+
+canonical-negatives : (es : List (Mono × ℤ)) → IsCanonical monomials int_group es → IsCanonical monomials int_group (negatives es)
+canonical-negatives [] canonical = tt
+canonical-negatives (e ∷ es) canonical = (nonzero-neg e.1 canonical.0, below-negatives e.0 es canonical.1, canonical-negatives es canonical.2)
+
+negative_terms : (p : Polynomial) → (polys.neg p).terms ≡ negatives p.terms
+unfolding negated poly_of
+negative_terms p = terms-poly_of (negatives p.terms) (canonical-negatives p.terms p.canonical)
+
+size-neg : (c : ℤ) → unsigned_abs c ≡ unsigned_abs (neg_ℤ c)
+size-neg (pos zero) = refl
+size-neg (pos (suc n)) = refl
+size-neg (negsuc n) = refl
+
+all_negatives : (d : ℕ) (es : List (Mono × ℤ)) → DividesAll d es → DividesAll d (negatives es)
+all_negatives d [] all = tt
+all_negatives d (e ∷ es) all = (subst (λ n. d ∣ n) (size-neg e.1) all.0, all_negatives d es all.1)
+
+pub divides_negative : (d : ℕ) (p : Polynomial) → DividesEach d p → DividesEach d (polys.neg p)
+divides_negative d p all = subst (DividesAll d) (sym (negative_terms p)) (all_negatives d p.terms all)

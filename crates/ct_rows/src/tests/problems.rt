@@ -5,7 +5,6 @@ mod faults_of_values;
 mod layout;
 mod limits;
 mod needs;
-mod ratios;
 mod reports;
 mod values;
 
