@@ -1,5 +1,5 @@
 -- Truth values that decide facts. Main lemmas `decided`, `same_polynomial_decides`, `same_operator_decides`: the tests for
--- equality hold exactly where the values are equal, by the laws of a group. Cited by the tests' code and by `TestsMean`.
+-- equality hold exactly where the values are equal, by the laws of a group. Cited by the tests' code and by `Passing`.
 use Rattle.std.specs.Prelude.{◌≡◌, refl, Bool, true, false, IsTrue, ◌↔◌}
 use Rattle.std.specs.Bool.{Decides}
 use Rattle.std.proofs.Common.{sym, ◌∙◌, ap}

@@ -1,5 +1,5 @@
--- The loops that look for a name, one element further. Main lemmas `name_found`, `coefficient_found`, `names_go_on`,
--- `term_found`, `terms_go_on`. Cited by `term_is_free` and `is_free`.
+-- The loop that looks for a name, one name further. Main lemmas `name_found`, `coefficient_found`, `names_go_on`. Cited by
+-- `term_is_free`.
 use Rattle.std.specs.Prelude.{◌≡◌, ◌≢◌, refl, Bool, true, false, ◌&&◌, ◌↔◌, List, [], ◌∷◌, ℤ}
 use Rattle.std.specs.Bool.{Decides}
 use Rattle.std.proofs.Common.{sym, ◌∙◌, ap}
@@ -10,8 +10,6 @@ use Rattle.ct_algebra.specs.Names.{Name, place, name_with}
 use Rattle.ct_algebra.specs.Polynomial.{Polynomial}
 use Rattle.ct_algebra.specs.FreeOf.{IsFreeOf}
 use Rattle.ct_mono.proofs.ExponentLaws.{place-name_with}
-use Rattle.ct_ore.specs.declared.op.OpTerm.{OpTerm}
-use Rattle.ct_ore.specs.Terms.{op_entries}
 use Rattle.ct_ore.specs.declared.answer.Part.{Part}
 use Rattle.ct_cert.specs.Certificates.{names_of, IsSmall}
 use Rattle.ct_cert.specs.Freedom.{each_passes, lacks, polynomial_lacks, term_lacks}
@@ -73,17 +71,3 @@ module _ (m : Mono) (c : Polynomial) (p : Part) (ps rest : List Part) (whole : r
   names_go_on r told none free left =
       ap (λ b. b && term_lacks (names_of ps) m c) (sym (both_pass _ _ (eq-eqb _ 0 (ap (exp m) (place-name_with p.name small) ∙ none)) ((polynomial_lacks_decides (name_with p.name) c).1 (told.0 free))))
       ∙ sym opened ∙ left
-
-module _ (js : List Name) (t : OpTerm) (ts rest : List OpTerm) (r : Bool) (whole : rest ≡ t ∷ ts) (is : r ≡ term_lacks js t.mono t.coef) where
-  left_of : List OpTerm → Bool
-  left_of ts = each_passes (λ (e : Mono × Polynomial). term_lacks js e.0 e.1) (op_entries ts)
-
-  pub term_found : {asked : Bool} → r ≡ false → each_passes (λ (e : Mono × Polynomial). term_lacks js e.0 e.1) (op_entries rest) ≡ asked → false ≡ asked
-  unfolding left_of
-  term_found found left = ap (λ b. b && left_of ts) (sym found ∙ is) ∙ sym (ap left_of whole) ∙ left
-
-  pub terms_go_on :
-      {asked : Bool} → r ≡ true → each_passes (λ (e : Mono × Polynomial). term_lacks js e.0 e.1) (op_entries rest) ≡ asked →
-      each_passes (λ (e : Mono × Polynomial). term_lacks js e.0 e.1) (op_entries ts) ≡ asked
-  unfolding left_of
-  terms_go_on passed left = ap (λ b. b && left_of ts) (sym passed ∙ is) ∙ sym (ap left_of whole) ∙ left

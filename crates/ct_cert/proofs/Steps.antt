@@ -1,13 +1,13 @@
 -- Loops over the parts and over the cofactors, one element further: what is left answers what was asked. Main lemmas
--- `next_difference`, `next_product`, `next_test`, `ending_test`, and `stopped` where a test ends them. Cited by the loops of the arithmetic and of the tests.
+-- `next_difference`, `next_test`, `ending_test`, and `stopped` where a test ends them. Cited by the loops of the arithmetic
+-- and of the tests.
 use Rattle.std.specs.Prelude.{◌≡◌, Ok, Err, List, ◌∷◌, map}
-use Rattle.std.proofs.Common.{sym, ◌∙◌, ap, ap₂}
+use Rattle.std.proofs.Common.{sym, ◌∙◌, ap}
 use Rattle.ct_algebra.specs.Names.{Name}
 use Rattle.ct_algebra.specs.Actions.{Action}
 use Rattle.ct_algebra.specs.Operators.{Operator}
 use Rattle.ct_algebra.specs.Certificate.{Summand}
 use Rattle.ct_mono.specs.Checked.{Checked, ◌>>=◌}
-use Rattle.ct_ore.specs.Measures.{checked_sum, checked_product, checked_combination}
 use Rattle.ct_ore.specs.declared.answer.Part.{Part}
 use Rattle.ct_cert.specs.declared.place.Stop.{Stop}
 use Rattle.ct_cert.specs.declared.place.Stop.TheVariants as stops
@@ -23,16 +23,6 @@ module _ (a : Name → Action) {asked : Checked Operator} (sum more : Operator) 
   next_difference p ps rest whole value left =
       sym (ap (λ rest. checked_differences a sum (map summand_of rest)) whole ∙ ap (λ r. r >>= (λ more. checked_differences a more (map summand_of ps))) value)
       ∙ left
-
-  pub next_product :
-      (c g product : Operator) (cs gs left right : List Operator) → left ≡ c ∷ cs → right ≡ g ∷ gs →
-      checked_product a c g ≡ Ok product → checked_sum sum product ≡ Ok more →
-      checked_combination a sum left right ≡ asked → checked_combination a more cs gs ≡ asked
-  next_product c g product cs gs left right cofactors generators value summed so_far =
-      sym (ap₂ (checked_combination a sum) cofactors generators
-      ∙ ap (λ r. r >>= (λ product. checked_sum sum product >>= (λ more. checked_combination a more cs gs))) value
-      ∙ ap (λ r. r >>= (λ more. checked_combination a more cs gs)) summed)
-      ∙ so_far
 
 module _ (test : Summand → testing.Tested (Unit {0})) {asked : testing.Tested (Unit {0})} (p : Part) (ps rest : List Part) where
   pub next_test :

@@ -1,5 +1,5 @@
--- A common denominator is a denominator, and each part divides it factor by factor. Main lemmas `wider_ok`, `common_ok` for
--- two fractions and `common_divided` for a list.
+-- A common denominator is a denominator, and each part divides it factor by factor. Main lemmas `wider_ok` for two fractions
+-- and `common_divided` for a list.
 use Rattle.std.specs.Prelude.{◌≡◌, ℕ, Ok, List, [], ◌∷◌}
 use Rattle.std.proofs.Common.{subst}
 use Rattle.std.proofs.lemmas.Nat.Gcd.{dvd_trans, dvd_refl}

@@ -1,5 +1,5 @@
--- The quotient of two polynomials is a written form of their quotient as values. Main lemmas `divisor_den`,
--- `quotient_written` and `quotient_of-value`, which `Frac::quotient` cites.
+-- The quotient of two polynomials is a written form of their quotient as values. Main lemmas `parts_den`, `quotient_of-parts`
+-- and `quotient_of-value`, which `Frac::quotient` cites.
 -- The factors of the divisor are the names of its common monomial and its primitive part: times its content they are the
 -- divisor, but for the sign.
 use Rattle.std.specs.Prelude.{◌≡◌, ◌≢◌, refl, ℕ, ◌+◌, ◌<◌, ◌≤◌, ℤ, pos, negsuc, neg_ℤ, unsigned_abs, Bool, true, false, cond, eqb, List, [], ◌∷◌, ◌++◌}

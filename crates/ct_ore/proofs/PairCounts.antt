@@ -1,6 +1,6 @@
 -- How many terms symbols of one name make of a list, and how large these are: main lemmas `raised-count`, `raised-size`.
 -- Both are for sums over the terms that weigh each by what its other names say, so that one name after the other may be taken.
--- No name makes less of a list: `raised-longer`, `raised-larger`.
+-- No name makes a list smaller: `raised-larger`.
 use Rattle.std.proofs.Common.{◌≡◌, refl, ℕ, zero, suc, ◌+◌, ◌*◌, ◌≤◌, pos, nat_abs, List, [], ◌∷◌, length, sum_by, sym, ◌∙◌, ap, ap₂, arith, mul-le-mul_left, mul-one, mul-zero}
 use Rattle.std.specs.Prelude.{flat_map}
 use Rattle.std.proofs.lemmas.Int.{unsigned_abs-mul}
@@ -11,7 +11,7 @@ use Rattle.ct_mono.specs.Exponents.{with_exponent}
 use Rattle.ct_ore.specs.declared.coefficient_term.CoefficientTerm.{CoefficientTerm}
 use Rattle.ct_ore.specs.CoefficientTerms.{size_of}
 use Rattle.ct_ore.specs.PairTerms.{listed, how_many, ways, lowered_term, raised_term, raised}
-use Rattle.ct_ore.proofs.PairWeightLaws.{ways_in_all, ways_in_all-is, weight_by, weight_by-positive, how_many-positive}
+use Rattle.ct_ore.proofs.PairWeightLaws.{ways_in_all, ways_in_all-is, weight_by, weight_by-positive}
 
 -- ---- sums over lists
 
@@ -131,15 +131,6 @@ module _ (t : Action) (i k : ℕ) (ts : List CoefficientTerm) where
     where
       once : (x n : ℕ) → x * (1 * n) ≡ x * n
       once x n = omega arith
-
-  pub raised-longer : length ts ≤ length (raised t i k ts)
-  raised-longer =
-      omega (
-        arith,
-        length-is ts,
-        length-raised,
-        sum_by-le-sum_by (λ u. 1) (λ u. how_many t k (exp u.names i)) ts (λ u. how_many-positive t k (exp u.names i)),
-      )
 
   pub raised-larger : size_of ts ≤ size_of (raised t i k ts)
   raised-larger =

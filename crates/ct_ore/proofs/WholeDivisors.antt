@@ -92,10 +92,6 @@ gathers_more {ts} {rest} {more} {t} {n} {g} {a} {h} rest_is size common before =
       );
     }
 
-pub gathers_all : {ts rest : List OpTerm} {n g : ℕ} → length rest ≡ 0 → Gathers ts n g rest → IsCommonDivisor (op_entries ts) n g
-gathers_all {rest = []} none before d = (λ divides. (before.same d).0 (divides, tt), λ both. ((before.same d).1 both).0)
-gathers_all {rest = t ∷ more} none before d = absurd (omega (arith, none))
-
 one_divides : (es : List (Mono × ℤ)) → DividesAll 1 es
 one_divides [] = tt
 one_divides (e ∷ es) = (one-dvd _, one_divides es)

@@ -60,10 +60,6 @@ module _ (m : Mono) where
   row_below n (e ∷ es) below =
       (subst (λ r. T (is_less r)) (sym (same_symbols e.0 n)) below.0, row_below n es below.1)
 
-  row_written : (es : List (Mono × ℤ)) → IsCanonical monomials int_group es → IsCanonical by_parts int_group (keyed (row_of m es))
-  row_written [] h = tt
-  row_written (e ∷ es) h = (h.0, row_below e.0 es h.1, row_written es h.2)
-
 -- symbols that are lower come later, whatever the names
 lower_symbols : (m k x y : Mono) → mono_cmp k m ≡ Less → pair_cmp (k, x) (m, y) ≡ Less
 lower_symbols m k x y less = pair_cmp_is (k, x) (m, y) ∙ ap (λ r. ordering_then r (mono_cmp x y)) less

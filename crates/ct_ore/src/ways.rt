@@ -3,7 +3,7 @@ ghost use Rattle.std.specs.Prelude.{◌≡◌, ◌+◌, ◌*◌, ◌^◌, ◌<�
 ghost use Rattle.ct_mono.specs.Limits.{largest_degree, largest_norm};
 ghost use Rattle.ct_ore.specs.Naming.{action_of};
 ghost use Rattle.ct_ore.specs.PairTerms.{how_many, ways, symbols_left};
-ghost use Rattle.ct_ore.specs.PairWeights.{derivation_weight, ways_below};
+ghost use Rattle.ct_ore.specs.PairWeights.{derivation_weight};
 ghost use Rattle.ct_ore.specs.Bounds.{IsCapped};
 
 use crate::algebra::Action;

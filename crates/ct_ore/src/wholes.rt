@@ -1,5 +1,5 @@
 // Operators and whole numbers: common divisors, quotients and multiples.
-ghost use Rattle.std.specs.Prelude.{◌≡◌, ◌++◌, ◌<◌, ◌≤◌, IfOk, map};
+ghost use Rattle.std.specs.Prelude.{◌≡◌, ◌<◌, ◌≤◌, IfOk, map};
 ghost use Rattle.ct_mono.specs.Checked.{Answers};
 ghost use Rattle.ct_mono.specs.Limits.{largest_norm};
 ghost use Rattle.ct_ore.specs.Naming.{actions_of};
