@@ -7,10 +7,10 @@ use Rattle.ct_token.specs.declared.token.Token.{Token}
 use Rattle.ct_token.specs.Lexical as lexical
 use Rattle.ct_token.specs.Lexical.{Scanned, Piece, Bad, scanned, scan_of, piece_of, is_line_end}
 use Rattle.ct_token.specs.Lexing.{Ends}
-use Rattle.ct_token.specs.Cutting.{Gap, Lexeme, IsGap, CannotBegin, bytes_of, tokens_at, IsEnding, IsCut, ScansCutTheText}
+use Rattle.ct_token.specs.Cutting.{Gap, Lexeme, IsGap, CannotBegin, begins_gap, bytes_of, tokens_at, IsEnding, IsCut, ScansCutTheText}
 use Rattle.ct_token.proofs.Scanning.{scanned-piece}
 use Rattle.ct_token.proofs.Spellings.{IsPiece, lexeme_is}
-use Rattle.ct_token.proofs.Gaps.{IsGapPiece, gap_is, bad_is, line_end_follows}
+use Rattle.ct_token.proofs.Gaps.{IsGapPiece, gap_is, bad_is, no_gap_begins}
 
 -- the bytes of a stretch and of what comes after it
 all_of : (n : ℕ) (text more rest : List ℕ) → drop n text ≡ more ++ rest → text ≡ (take n text ++ more) ++ rest
@@ -30,7 +30,7 @@ with_gap fresh at n text s piece later =
       ending = subst (λ (k : ℕ). IsEnding k later.rest s.bad) place later.ending;
     }
 
-with_lexeme : (fresh : Bool) (at n : ℕ) (text : List ℕ) (symbol : Symbol) (s : Scanned) → IsPiece symbol n text → (IsTrue (is_line_end symbol) → fresh ≡ false)
+with_lexeme : (fresh : Bool) (at n : ℕ) (text : List ℕ) (symbol : Symbol) (s : Scanned) → IsPiece symbol n text → (IsTrue (begins_gap symbol) → fresh ≡ false)
     → IsCut (is_line_end symbol) (at + n) (drop n text) s
     → IsCut fresh at text (record { tokens = record { symbol = symbol; from = at; to = at + n } ∷ s.tokens; bad = s.bad })
 with_lexeme fresh at n text symbol s piece behind later =
@@ -42,7 +42,7 @@ with_lexeme fresh at n text symbol s piece behind later =
       stretches = Lexeme symbol (take n text) ∷ later.stretches;
       rest = later.rest;
       all_bytes = all_of n text (bytes_of later.stretches) later.rest later.all_bytes;
-      each = (record { spelled = piece.spelled; whole = whole; ends_some = behind }, later.each);
+      each = (record { spelled = piece.spelled; whole = whole; no_gap = behind }, later.each);
       tokens =
           ap (λ (ts : List Token). record { symbol = symbol; from = at; to = at + n } ∷ ts) later.tokens
           ∙ ap (λ (k : ℕ). record { symbol = symbol; from = at; to = at + k } ∷ tokens_at (at + k) later.stretches) (sym long);
@@ -58,10 +58,10 @@ at_bad fresh at b bs stops =
     let here : at ≡ at + 0 = omega arith in
     record { stretches = []; rest = b ∷ bs; all_bytes = refl; each = tt; tokens = refl; ending = (ap Some here, stops) }
 
--- a line end is no token where nothing but blanks stands before it
-behind : (fresh : Bool) (b : ℕ) (bs : List ℕ) (symbol : Symbol) (n : ℕ) → piece_of fresh (b ∷ bs) ≡ lexical.Lexeme symbol n → IsTrue (is_line_end symbol) → fresh ≡ false
-behind false b bs symbol n found ends = refl
-behind true b bs symbol n found ends = let no = line_end_follows b bs symbol n found in cc
+-- with which a gap begins is no token where nothing but blanks stands before it
+behind : (fresh : Bool) (b : ℕ) (bs : List ℕ) (symbol : Symbol) (n : ℕ) → piece_of fresh (b ∷ bs) ≡ lexical.Lexeme symbol n → IsTrue (begins_gap symbol) → fresh ≡ false
+behind false b bs symbol n found begins = refl
+behind true b bs symbol n found begins = let no = no_gap_begins b bs symbol n found in cc
 
 -- the text is no longer than k bytes
 cut_from : (k : ℕ) (fresh : Bool) (at : ℕ) (text : List ℕ) → length text ≤ k → IsCut fresh at text (scanned fresh at 0 text)

@@ -1,15 +1,15 @@
 -- What a piece is that is no token: a gap, or a byte that can begin neither. Main lemmas `gap_is` and `bad_is`, by the tests of
 -- `piece_of` in their order.
-use Rattle.std.proofs.Common.{◌≡◌, inl, inr, ℕ, ◌<◌, ◌≤◌, ◌==◌, ◌&&◌, Bool, true, false, not, cond, List, [], ◌∷◌, length, take, drop, refl, sym, ap, subst, arith, rules, tests}
+use Rattle.std.proofs.Common.{◌≡◌, inl, inr, ℕ, ◌<◌, ◌≤◌, ◌==◌, ◌&&◌, Bool, true, false, not, cond, List, [], ◌∷◌, length, take, drop, refl, sym, ap, ◌∙◌, subst, arith, rules, tests}
 use Rattle.std.specs.List.{prefix_len, take_while}
 use Rattle.std.proofs.lemmas.List.Sums.{prefix_len-le-length}
 use Rattle.std.proofs.lemmas.Bool.{false≢true}
 use Rattle.ct_token.specs.Lexical as lexical
-use Rattle.ct_token.specs.Lexical.{Piece, Bad, is_blank, is_letter, is_digit, is_word_byte, is_printable, is_inside_line, line_end_len, starts_dots, comment_len, is_line_end, piece_of}
+use Rattle.ct_token.specs.Lexical.{Piece, Bad, is_blank, is_letter, is_digit, is_word_byte, is_printable, is_inside_line, line_end_len, starts_dots, comment_len, piece_of}
 use Rattle.ct_token.specs.declared.token.Symbol.{Symbol}
 use Rattle.ct_token.specs.declared.token.Symbol.TheVariants.{Word, Number, Sign, Dots, LineEnd}
 use Rattle.ct_token.specs.Lexing.{Stops}
-use Rattle.ct_token.specs.Cutting.{IsGap, CannotBegin}
+use Rattle.ct_token.specs.Cutting.{IsGap, CannotBegin, begins_gap}
 use Rattle.ct_token.proofs.Spellings.{line_end_is, front_passes, front_stops, front_length}
 
 pub record IsGapPiece (fresh : Bool) (n : ℕ) (bs : List ℕ) : Type 0 where
@@ -76,12 +76,13 @@ gap_is fresh b bs n e = by fresh (is_blank b) (b == 35) (not (line_end_len (b �
     by false false hash false false false false true e1 e2 e3 h = cc
     by false false hash false false false false false e1 e2 e3 h = cc
 
--- a line end is a token only behind another one
-pub line_end_follows : (b : ℕ) (bs : List ℕ) (symbol : Symbol) (n : ℕ) → piece_of true (b ∷ bs) ≡ lexical.Lexeme symbol n → is_line_end symbol ≡ false
+-- a line end and `#` are tokens only behind another one
+pub no_gap_begins : (b : ℕ) (bs : List ℕ) (symbol : Symbol) (n : ℕ) → piece_of true (b ∷ bs) ≡ lexical.Lexeme symbol n → begins_gap symbol ≡ false
 unfolding piece_of
-line_end_follows b bs symbol n e = by (is_blank b) (b == 35) (not (line_end_len (b ∷ bs) == 0)) (is_letter b) (is_digit b) (starts_dots (b ∷ bs)) (is_printable b) e
+no_gap_begins b bs symbol n e = by (is_blank b) (b == 35) (not (line_end_len (b ∷ bs) == 0)) (is_letter b) (is_digit b) (starts_dots (b ∷ bs)) (is_printable b) refl e
   where
     by : (blank hash ends letter digit dots printable : Bool)
+        → (b == 35) ≡ hash
         → cond blank (lexical.Gap 1)
         (cond hash (lexical.Gap (comment_len (b ∷ bs)))
         (cond ends (lexical.Gap (line_end_len (b ∷ bs)))
@@ -89,15 +90,15 @@ line_end_follows b bs symbol n e = by (is_blank b) (b == 35) (not (line_end_len 
         (cond digit (lexical.Lexeme Number (length (take_while is_digit (b ∷ bs))))
         (cond dots (lexical.Lexeme Dots 2)
         (cond printable (lexical.Lexeme (Sign b) 1) Bad)))))) ≡ lexical.Lexeme symbol n
-        → is_line_end symbol ≡ false
-    by true hash ends letter digit dots printable h = cc
-    by false true ends letter digit dots printable h = cc
-    by false false true letter digit dots printable h = cc
-    by false false false true digit dots printable h = let same : Word ≡ symbol = cc in ap is_line_end (sym same)
-    by false false false false true dots printable h = let same : Number ≡ symbol = cc in ap is_line_end (sym same)
-    by false false false false false true printable h = let same : Dots ≡ symbol = cc in ap is_line_end (sym same)
-    by false false false false false false true h = let same : Sign b ≡ symbol = cc in ap is_line_end (sym same)
-    by false false false false false false false h = cc
+        → begins_gap symbol ≡ false
+    by true hash ends letter digit dots printable is h = cc
+    by false true ends letter digit dots printable is h = cc
+    by false false true letter digit dots printable is h = cc
+    by false false false true digit dots printable is h = let same : Word ≡ symbol = cc in ap begins_gap (sym same)
+    by false false false false true dots printable is h = let same : Number ≡ symbol = cc in ap begins_gap (sym same)
+    by false false false false false true printable is h = let same : Dots ≡ symbol = cc in ap begins_gap (sym same)
+    by false false false false false false true is h = let same : Sign b ≡ symbol = cc in ap begins_gap (sym same) ∙ is
+    by false false false false false false false is h = cc
 
 -- a byte with which no line ends
 no_end : (b : ℕ) (bs : List ℕ) → not (line_end_len (b ∷ bs) == 0) ≡ false → ((b == 10) ≡ false) × (b ≡ 13 → Stops (λ c. c == 10) bs)

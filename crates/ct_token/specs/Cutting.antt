@@ -11,6 +11,7 @@
 use Rattle.std.specs.Prelude.{◌≡◌, ℕ, ◌+◌, ◌==◌, ◌⊎◌, Bool, true, false, IsTrue, List, [], ◌∷◌, ◌++◌, length, drop, Option, Some, None}
 use Rattle.std.specs.List.{list_all}
 use Rattle.ct_token.specs.declared.token.Symbol.{Symbol}
+use Rattle.ct_token.specs.declared.token.Symbol.TheVariants.{Sign, LineEnd}
 use Rattle.ct_token.specs.declared.token.Token.{Token}
 use Rattle.ct_token.specs.Lexical.{Scanned, scan_of, is_blank, is_inside_line, is_printable, is_line_end}
 use Rattle.ct_token.specs.Lexing.{Spells, Ends, Stops}
@@ -44,11 +45,17 @@ bytes_of [] = []
 bytes_of (Gap bs ∷ ss) = bs ++ bytes_of ss
 bytes_of (Lexeme symbol bs ∷ ss) = bs ++ bytes_of ss
 
--- a line end is a token only behind another one of its line
+-- a line end or `#`, with which a gap begins where nothing but blanks stands before in the line
+abbrev pub begins_gap : Symbol → Bool
+begins_gap LineEnd = true
+begins_gap (Sign s) = s == 35
+begins_gap _ = false
+
+-- these two are tokens only behind another one of their line
 pub record IsLexeme (fresh : Bool) (symbol : Symbol) (bs after : List ℕ) : Type 0 where
   pub spelled : Spells symbol bs
   pub whole : Ends symbol after
-  pub ends_some : IsTrue (is_line_end symbol) → fresh ≡ false
+  pub no_gap : IsTrue (begins_gap symbol) → fresh ≡ false
 
 abbrev pub AreStretches : Bool → List Stretch → List ℕ → Type 0
 AreStretches fresh [] rest = Unit {0}

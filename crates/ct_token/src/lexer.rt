@@ -1,5 +1,5 @@
 // The scanner.
-ghost use Rattle.std.specs.Prelude.{◌≡◌, ◌<◌, ◌≤◌, ◌^◌, ◌↔◌, length, take_while, IsTrue, IfOk};
+ghost use Rattle.std.specs.Prelude.{◌≡◌, ◌<◌, ◌≤◌, length, take_while, IfOk};
 ghost use Rattle.ct_token.specs.Lexical as spec;
 ghost use Rattle.ct_token.specs.Pieces.{view_of, scanned_by, IsWithin};
 
