@@ -120,6 +120,11 @@ fn lines_are_counted(rt: HostRuntime) -> Result<(), Fail> {
             fault(BadKind::TooMany, 55),
         ),
         (
+            "free n shift\nsum k\nint u\n",
+            "sum n\nsum k\nint u\nsum l\n",
+            fault(BadKind::TooMany, 34),
+        ),
+        (
             "let g = plus f f\n",
             "let g0 = plus f f\nlet g1 = plus f f\nlet g2 = plus f f\nlet g3 = plus f f\nlet g4 = plus f f\nlet g5 = plus f f\nlet g6 = plus f f\nlet g7 = plus f f\n",
             fault(BadKind::TooMany, 217),

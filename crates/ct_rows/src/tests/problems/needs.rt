@@ -29,6 +29,10 @@ fn a_missing_line_is_told_at_the_end(rt: HostRuntime) -> Result<(), Fail> {
             [false, false, false, true, true, false],
         ),
         (
+            "mgfun problem 1\nfree n shift\nsum k\nlet f = gens S[n] - 1\nuse f\ntarget 1\norder 0..0\ndegree 0..0\nend\n",
+            [true, true, true, true, true, true],
+        ),
+        (
             "mgfun problem 1\nfree n shift\ntarget 1\nend\n",
             [false, false, true, false, false, false],
         ),

@@ -1,9 +1,10 @@
-// Texts that `reduce` refuses, and reductions at the limits of arithmetic.
+// Texts that `reduce` refuses, and reductions at the limits of arithmetic: the last six overflow in the moved generator (its
+// numbers, its terms), in the scale, in a cofactor, in the difference, and in the sum for a cofactor.
 
 use crate::tests::runs::reductions::each_is_reduced;
 use std::test::Fail;
 
-const ROWS: [(&[&str], u8, &[&str]); 16] = [
+const ROWS: [(&[&str], u8, &[&str]); 22] = [
     (
         &["free n shift", "gen n - n", "target S[n]", "end"],
         2,
@@ -160,6 +161,73 @@ const ROWS: [(&[&str], u8, &[&str]); 16] = [
         ],
         3,
         &["overflow reduce 2 number"],
+    ),
+    (
+        &[
+            "free n shift",
+            "gen n^100*S[n] - 1",
+            "target S[n]^5",
+            "end",
+        ],
+        3,
+        &["overflow reduce 1 number"],
+    ),
+    (
+        &[
+            "free n shift",
+            "free m shift",
+            "gen n^1100*m^1000*S[n] - 1",
+            "target S[n]^2*S[m]",
+            "end",
+        ],
+        3,
+        &["overflow reduce 1 terms"],
+    ),
+    (
+        &[
+            "free n shift",
+            "free m shift",
+            "gen n^3000*S[n] - S[m]",
+            "gen n^2000*S[m] - 1",
+            "target S[n]",
+            "end",
+        ],
+        3,
+        &["overflow reduce 1 degree"],
+    ),
+    (
+        &[
+            "free n shift",
+            "free m shift",
+            "gen S[n]",
+            "gen n^2000*S[m] - 1",
+            "target n^3000*S[n] + S[m]",
+            "end",
+        ],
+        3,
+        &["overflow reduce 1 degree"],
+    ),
+    (
+        &[
+            "free n shift",
+            "gen S[n] - 85070591730234615865843651857942052864",
+            "target S[n] - 85070591730234615865843651857942052864",
+            "end",
+        ],
+        3,
+        &["overflow reduce 1 number"],
+    ),
+    (
+        &[
+            "free n shift",
+            "free m shift",
+            "gen S[n]",
+            "gen S[m]^2 - 85070591730234615865843651857942052863*S[n]",
+            "target 56713727820156410577229101238628035241*S[n]^2 + 56713727820156410577229101238628035241*S[n]*S[m] + S[m]^2",
+            "end",
+        ],
+        3,
+        &["overflow reduce 1 number"],
     ),
 ];
 

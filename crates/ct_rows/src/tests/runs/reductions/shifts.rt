@@ -1,9 +1,10 @@
-// Reductions by shifts: a text, and the status and the lines of the answer.
+// Reductions by shifts: a text, and the status and the lines of the answer. In the last row the leading coefficient
+// divides both, but the first quotient would pass the limit.
 
 use crate::tests::runs::reductions::each_is_reduced;
 use std::test::Fail;
 
-const ROWS: [(&[&str], u8, &[&str]); 10] = [
+const ROWS: [(&[&str], u8, &[&str]); 11] = [
     (
         &["free n shift", "gen S[n] - 2", "target S[n]^2 - 4", "end"],
         0,
@@ -174,6 +175,28 @@ const ROWS: [(&[&str], u8, &[&str]); 10] = [
             "scale 1",
             "cofactor 1: S[n] + 3*n + 4",
             "rest (3*n^2 + 6*n + 6)*S[n] + n^3 + 3*n + 4",
+            "end",
+        ],
+    ),
+    (
+        &[
+            "free n shift",
+            "gen (n - 1)*S[n]",
+            "target 21267647932558653966460912964485513215*(n^9 - 1)*S[n]",
+            "target (n^9 - 1)*S[n]",
+            "end",
+        ],
+        0,
+        &[
+            "mgfun reduce 1",
+            "target 1",
+            "scale n - 1",
+            "cofactor 1: 21267647932558653966460912964485513215*n^9 - 21267647932558653966460912964485513215",
+            "rest 0",
+            "target 2",
+            "scale 1",
+            "cofactor 1: n^8 + n^7 + n^6 + n^5 + n^4 + n^3 + n^2 + n + 1",
+            "rest 0",
             "end",
         ],
     ),
