@@ -1,5 +1,5 @@
 // A source and a sink over memory, whose calls fail where they are told to.
-ghost use Rattle.std.specs.Prelude.{◌≡◌, ◌<◌, ◌≤◌, ◌↔◌, ◌⊎◌, ◌-◌, IsErr, IfOk, OnErr, Contains, length, Some, min, []};
+ghost use Rattle.std.specs.Prelude.{◌≡◌, ◌<◌, ◌≤◌, ◌↔◌, ◌⊎◌, ◌-◌, IsErr, IfOk, Contains, length, Some, min, []};
 ghost use Rattle.std.specs.Io.{ReadsAtMost, WritesAtMost};
 ghost use Rattle.std.specs.Io.KnownBytes.{ReadConsumes, WriteAppends};
 ghost use Rattle.ct_io.specs.Faults.{IsCounted, next_count};

@@ -6,14 +6,17 @@ ghost use Rattle.ct_io.specs.Faults.{Tells};
 use crate::NoMemory;
 use crate::source::Source;
 use std::alloc::Global;
+use thiserror::Error;
 
 /// The most bytes that are read at once.
 const LARGEST_PIECE: usize = 65_536;
 
 /// Why a source was not read.
-#[derive(Debug, Drop)]
+#[derive(Debug, Drop, Error)]
 pub enum SourceFault {
+    #[error("a read failed")]
     Failed,
+    #[error("out of memory")]
     NoMemory,
 }
 
