@@ -2,11 +2,14 @@
 --     Reducer                a generator, its place in the list, and the symbols that take its leading monomial to another
 --     first_reducer m gs     the first of the generators whose leading monomial divides m, or none
 --     Reducible              a monomial of an operator with its coefficient, and its reducer
---     greatest_reducible     the greatest monomial of an operator that has a reducer, or none
+--     first_reducible gs es  the first of falling terms whose monomial has a reducer, or none
+--     greatest_reducible gs s     that of the rest: its greatest monomial with a reducer
 --     Step                   what a step does: the factor m of the whole reduction, and the part a'·τ of a generator
 --     checked_plan           τ∘g, and the step that it asks for
 --     checked_multiplied     the rest, the scale and the cofactors in order, times a polynomial from the left
 --     checked_taken          the part's product with the generator is taken from the rest, and the part added to the cofactor
+--     multiplied_unless_one  the same, where a factor 1 multiplies nothing
+--     reduction_from, reduction_turn      all further steps; the next one and all behind it
 --     checked_reduction a gs p     all steps, from the scale 1, cofactors 0 and the rest p
 -- Where the leading coefficient l of τ∘g divides the coefficient, the factor is 1 and a' the quotient; else the factor is l,
 -- and a' the coefficient. A division that overflows counts as not dividing. A polynomial times an operator is the product of

@@ -1,6 +1,5 @@
 // Left reduction.
-ghost use Rattle.std.specs.Prelude.{◌≡◌, ◌≢◌, IfOk, length};
-ghost use Rattle.ct_algebra.specs.Operators.{no_operator};
+ghost use Rattle.std.specs.Prelude.{◌≡◌, IfOk, length};
 ghost use Rattle.ct_mono.specs.Checked.{AnswersBy};
 ghost use Rattle.ct_ore.specs.Naming.{actions_of};
 ghost use Rattle.ct_reduce.specs.Membership.{ReducesTo, IsReduced};
