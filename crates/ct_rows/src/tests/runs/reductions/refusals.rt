@@ -163,12 +163,7 @@ const ROWS: [(&[&str], u8, &[&str]); 22] = [
         &["overflow reduce 2 number"],
     ),
     (
-        &[
-            "free n shift",
-            "gen n^100*S[n] - 1",
-            "target S[n]^5",
-            "end",
-        ],
+        &["free n shift", "gen n^100*S[n] - 1", "target S[n]^5", "end"],
         3,
         &["overflow reduce 1 number"],
     ),
