@@ -14,6 +14,7 @@ use Rattle.ct_problem.proofs.Taking.{Taken}
 use Rattle.ct_problem.proofs.TakenExpressions.{Takes-expression}
 use Rattle.ct_problem.proofs.ExpressionKinds.{IsFor}
 use Rattle.ct_problem.proofs.EvaluableExpressions.{Makes-expression}
+use Rattle.ct_problem.proofs.WellFormedLines.{operator_is, polynomial_is}
 use Rattle.ct_answer.specs.ReadBack.{IsSpelled}
 
 module _ (names : List Naming) (operators : Bool) (text : List ℕ) where
@@ -37,16 +38,14 @@ module _ (names : List Naming) (operators : Bool) (text : List ℕ) where
           let pairs : ◌≡◌ {A = Expr × Input} (x, i) (y, j) = cc in
           ap (λ (r : Expr × Input). r.0) pairs
 
-  is_for : (x : Expr) → IsAlgebra names → IsSpelled names operators x text → IsFor operators x
+  is_for : (x : Expr) → IsAlgebra names → IsSpelled names operators x text → IsFor names operators x
   unfolding start
   is_for x known spelled =
       let one = is_read x spelled in
       (Makes-expression (declared names) known.few operators start one.left x (scans_are_tokens text 0) one.reads).holds
 
-pub is_operator : (names : List Naming) (text : List ℕ) (x : Expr) → IsAlgebra names → IsSpelled names true x text → IsOperator x
-is_operator names text x known spelled = (is_for names true text x known spelled).evaluable
+pub is_operator : (names : List Naming) (text : List ℕ) (x : Expr) → IsAlgebra names → IsSpelled names true x text → IsOperator names x
+is_operator names text x known spelled = operator_is names x (is_for names true text x known spelled)
 
-pub is_polynomial : (names : List Naming) (text : List ℕ) (x : Expr) → IsAlgebra names → IsSpelled names false x text → IsPolynomial x
-is_polynomial names text x known spelled =
-    let for_polynomial = is_for names false text x known spelled in
-    record { evaluable = for_polynomial.evaluable; plain = for_polynomial.plain refl }
+pub is_polynomial : (names : List Naming) (text : List ℕ) (x : Expr) → IsAlgebra names → IsSpelled names false x text → IsPolynomial names x
+is_polynomial names text x known spelled = polynomial_is names x (is_for names false text x known spelled)

@@ -50,14 +50,14 @@ pub record PolynomialIsRead (names : List Naming) (p : Polynomial) : Type 0 wher
   pub expression : Expr
   pub spelled : IsSpelled names false expression (polynomial_text names p)
   pub only : (x : Expr) → IsSpelled names false x (polynomial_text names p) → x ≡ expression
-  pub evaluable : IsPolynomial expression
+  pub evaluable : IsPolynomial names expression
   pub value : checked_polynomial (actions_of names) expression ≡ Ok p
 
 pub record OperatorIsRead (names : List Naming) (p : Operator) : Type 0 where
   pub expression : Expr
   pub spelled : IsSpelled names true expression (operator_text names p)
   pub only : (x : Expr) → IsSpelled names true x (operator_text names p) → x ≡ expression
-  pub evaluable : IsOperator expression
+  pub evaluable : IsOperator names expression
   pub value : value_of (actions_of names) expression ≡ Ok p
 
 abbrev pub PrintedPolynomialsAreRead : Type 0

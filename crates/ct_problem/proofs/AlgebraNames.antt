@@ -14,7 +14,7 @@ use Rattle.ct_problem.specs.declared.reading.declarations.NameLine.TheVariants.{
 use Rattle.ct_problem.specs.Input.{◌>>=◌, ◌>>◌, pure, eat_word, expect_word}
 use Rattle.ct_problem.specs.Declarations.{declaration, declarations, declarations_from, declarations_by, full_by, some_names, name_line, is_full, acts_fully, sums_fully, free_action, action_of_line, role_of_line, declared}
 use Rattle.ct_problem.specs.Names.{summed_texts, with_text}
-use Rattle.ct_problem.proofs.Steps.{Makes, Anything, Makes-pure, Makes-fault, Makes-cond, Makes-unless, Makes-seen, Makes-bind, Makes-then, Makes-skip, Makes-eat_word, Makes-expect_word, Makes-line_end}
+use Rattle.ct_problem.proofs.Steps.{Makes, Anything, Makes-pure, Makes-fault, Makes-cond, Makes-fault_if, Makes-seen, Makes-bind, Makes-then, Makes-skip, Makes-eat_word, Makes-expect_word, Makes-line_end}
 use Rattle.ct_problem.proofs.NewNames.{IsNew, Makes-new_name}
 
 -- ---- a name line
@@ -124,7 +124,7 @@ module _ (line : NameLine) (found : List Naming) (operators : count_by has_opera
   pub Makes-declaration : Makes (declaration line found) (IsNewName found)
   unfolding declaration P
   Makes-declaration =
-      Makes-unless P (is_full line found) TooMany _ (λ full.
+      Makes-fault_if P (is_full line found) TooMany _ (λ full.
       Makes-then P _ _ Makes-skip
       (Makes-bind (IsNew found) P _ _ (Makes-new_name (declared found)) (λ text new.
       Makes-bind (Fits line) P (action_of_line line) _ (Makes-action line) (λ action fits.
@@ -171,7 +171,7 @@ no_more_names n ns known = let few = known.few in record { each = known.each; di
 
 full_is : (found : List Naming) → AreNames 0 found → (o : Option NameLine) → Makes (full_by found o) (AreNames 0)
 full_is found known None = Makes-pure (AreNames 0) found known
-full_is found known (Some line) = Makes-unless (AreNames 0) true TooMany (pure found) (λ h. absurd (false≢true (sym h)))
+full_is found known (Some line) = Makes-fault_if (AreNames 0) true TooMany (pure found) (λ h. absurd (false≢true (sym h)))
 
 Makes-lines : (n : ℕ) (found : List Naming) → AreNames n found → Makes (declarations_from n found) (AreNames 0)
 unfolding declarations_from

@@ -1,12 +1,14 @@
--- The expressions that the grammar reads can be evaluated, and those of polynomials have no symbol. Main lemma
--- `Makes-expression`, rule by rule.
-use Rattle.std.proofs.Common.{◌≡◌, ◌≢◌, ℕ, zero, suc, ◌<◌, ◌≤◌, ◌==◌, ◌||◌, Bool, true, false, cond, List, [], ◌∷◌, ◌++◌, length, Option, Some, None, Ok, pos, refl, arith, rules, tests}
+-- The expressions that the grammar reads are over the declared names and can be evaluated, and those of polynomials have no
+-- symbol. Main lemma `Makes-expression`, rule by rule.
+use Rattle.std.proofs.Common.{◌≡◌, ◌≢◌, ℕ, zero, suc, ◌<◌, ◌≤◌, ◌==◌, ◌||◌, Bool, true, false, cond, IsTrue, codes, List, [], ◌∷◌, ◌++◌, length, Option, Some, None, Ok, pos, refl, arith, rules, tests}
 use Rattle.std.specs.List.{slice_get}
 use Rattle.std.specs.Option.{is_none}
+use Rattle.std.proofs.lemmas.Bool.{false≢true}
 use Rattle.std.proofs.lemmas.List.Quantifiers.{position-Some}
 use Rattle.ct_token.specs.declared.token.Symbol.{Symbol}
 use Rattle.ct_token.specs.declared.token.Symbol.TheVariants.{Word, Number, Sign, Dots, LineEnd}
-use Rattle.ct_algebra.specs.Actions.{Action, Still}
+use Rattle.ct_algebra.specs.Actions.{Action, Shift, Derive, Still, by_action}
+use Rattle.ct_ore.specs.Naming.{Naming}
 use Rattle.ct_ore.specs.declared.algebra.Role.TheVariants.{Free}
 use Rattle.ct_mono.specs.Limits.{largest_norm, largest_degree}
 use Rattle.ct_expr.specs.declared.expr.Expr.{Expr}
@@ -15,14 +17,15 @@ use Rattle.ct_expr.specs.declared.expr.Summand.{Summand}
 use Rattle.ct_problem.specs.declared.fault.BadKind.TheVariants.{Syntax, WrongKind, ZeroDenominator, ExponentTooLarge, TooDeep}
 use Rattle.ct_problem.specs.declared.reading.names.Known.{Known}
 use Rattle.ct_problem.specs.declared.reading.names.Known.TheVariants.{Variable, Let, Unknown}
-use Rattle.ct_problem.specs.Input.{Input, Parser, ◌>>=◌, ◌>>◌, pure, look, fault, syntax, peek, skip, eat, expect, symbol, spelling}
-use Rattle.ct_problem.specs.Names.{Names, is_named, known, acts_as}
-use Rattle.ct_problem.specs.Number.{unless, coming_number, number}
+use Rattle.ct_problem.specs.Input.{Input, Parser, ◌>>=◌, ◌>>◌, pure, look, fault, syntax, peek, skip, eat, expect, symbol, spelling, sees_word}
+use Rattle.ct_problem.specs.Names.{Names, is_named, known, acts_as, same_action}
+use Rattle.ct_problem.specs.OverNames.{is_listed, has_symbol}
+use Rattle.ct_problem.specs.Number.{fault_if, coming_number, number}
 use Rattle.ct_problem.specs.Expressions.{name_by, name, acting_by, acting_word, acting, symbol_by, letter, word_by, word, whole, divisor, constant, product_of, summand, joint, is_minus, joins, atom_by, atom, factor, factors_from, term, summands_from, summands, sum, nested, expression}
 use Rattle.ct_problem.specs.WellFormed.{Each}
 use Rattle.ct_problem.proofs.ExpressionKinds.{IsFor, IsTermFor, Each-more, name_is, symbol_is, whole_is, ratio_is, summand_is, sum_is, product_of-is, power_is}
 use Rattle.ct_problem.proofs.KnownNames.{variable-known}
-use Rattle.ct_problem.proofs.Steps.{IsAt, Made, Makes, Anything, Makes-pure, Makes-look, Makes-fault, Makes-cond, Makes-seen, Makes-bind, Makes-then, Makes-unless, Makes-skip, Makes-eat, Makes-expect, Makes-coming_number, Makes-number}
+use Rattle.ct_problem.proofs.Steps.{IsAt, Made, Makes, Anything, Makes-pure, Makes-look, Makes-fault, Makes-cond, Makes-seen, Makes-bind, Makes-then, Makes-fault_if, Makes-skip, Makes-eat, Makes-expect, Makes-coming_number, Makes-number}
 
 -- ---- the rules
 
@@ -38,114 +41,164 @@ IsDivisor d = (d ≤ largest_norm) × (d ≢ 0)
 Makes-divisor : Makes divisor IsDivisor
 unfolding divisor
 Makes-divisor =
-    Makes-bind (λ n. n ≤ largest_norm) IsDivisor coming_number (λ n. unless (n == 0) ZeroDenominator >> (skip >> pure n)) Makes-coming_number
-    (λ n within. Makes-unless IsDivisor (n == 0) ZeroDenominator (skip >> pure n) (λ none.
+    Makes-bind (λ n. n ≤ largest_norm) IsDivisor coming_number (λ n. fault_if (n == 0) ZeroDenominator >> (skip >> pure n)) Makes-coming_number
+    (λ n within. Makes-fault_if IsDivisor (n == 0) ZeroDenominator (skip >> pure n) (λ none.
     let some : n ≢ 0 = λ zero. first_of (search (rules, tests), grind (arith, tests)) in
     Makes-then IsDivisor skip (pure n) Makes-skip (Makes-pure IsDivisor n (within, some))))
 
-Makes-constant : (operators : Bool) → Makes constant (IsFor operators)
-unfolding constant
-Makes-constant operators =
-    Makes-bind (λ n. n ≤ largest_norm) (IsFor operators) whole (λ n. eat 47 >>= ratio n) Makes-whole (λ n n_within.
-    Makes-bind Anything (IsFor operators) (eat 47) (ratio n) (Makes-eat 47) (λ is_ratio _.
-    Makes-cond (IsFor operators) is_ratio (divisor >>= (λ d. pure (e.Ratio (pos n) (pos d)))) (pure (e.Whole (pos n)))
-    (λ _. Makes-bind IsDivisor (IsFor operators) divisor (λ d. pure (e.Ratio (pos n) (pos d))) Makes-divisor
-    (λ d h. Makes-pure (IsFor operators) (e.Ratio (pos n) (pos d)) (ratio_is operators n d n_within h.0 h.1)))
-    (λ _. Makes-pure (IsFor operators) (e.Whole (pos n)) (whole_is operators n n_within))))
+-- ---- names that have a place, and a symbol
+
+listed_within : (ns : List Naming) (at : ℕ) → at < length ns → IsTrue (is_listed (slice_get ns at))
+listed_within [] at within = absurd (omega (arith, within))
+listed_within (n ∷ ns) zero within = refl
+listed_within (n ∷ ns) (suc at) within = listed_within ns at (omega (arith, within))
+
+-- an action that a symbol stands for
+abbrev IsActing : Action → Type 0
+IsActing action = IsTrue (by_action action true true false)
+
+abbrev HasActing : Option Action → Type 0
+HasActing (Some action) = IsActing action
+HasActing None = Unit {0}
+
+symbol_of : (action : Action) (o : Option Naming) → IsActing action → acts_as action o ≡ true → IsTrue (has_symbol o)
+symbol_of action None acts is = absurd (false≢true is)
+symbol_of action (Some n) acts is = by action n.action acts is
   where
-    ratio : ℕ → Bool → Parser Expr
-    ratio n is_ratio = cond is_ratio (divisor >>= (λ d. pure (e.Ratio (pos n) (pos d)))) (pure (e.Whole (pos n)))
+    by : (action own : Action) → IsActing action → same_action own action ≡ true → IsTrue (by_action own true true false)
+    by action Shift acts is = refl
+    by action Derive acts is = refl
+    by Shift Still acts is = absurd (false≢true is)
+    by Derive Still acts is = absurd (false≢true is)
+    by Still Still acts is = acts
+
+letter_acts : (i : Input) → HasActing (letter i)
+unfolding letter
+letter_acts i = by (sees_word (codes "S") i) (sees_word (codes "D") i)
+  where
+    by : (shifts derives : Bool) → HasActing (cond shifts (Some Shift) (cond derives (Some Derive) None))
+    by true derives = refl
+    by false true = refl
+    by false false = tt
 
 module _ (names : Names) (few : length names.variables ≤ 6) where
-  known_place : (letters : List ℕ) (at : ℕ) → known letters names ≡ Variable at → at < 6
-  known_place letters at found =
-      let within = (position-Some (is_named letters) names.variables at (record { text = []; action = Still; role = Free }) (variable-known letters at names found)).0 in
-      omega arith
+  abbrev ns : List Naming
+  ns = names.variables
 
-  Makes-name : (operators : Bool) → Makes (name names) (IsFor operators)
+  abbrev IsThis : Bool → Expr → Type 0
+  IsThis operators x = IsFor ns operators x
+
+  abbrev IsThisTerm : Bool → Summand → Type 0
+  IsThisTerm operators t = IsTermFor ns operators t
+
+  Makes-constant : (operators : Bool) → Makes constant (IsThis operators)
+  unfolding constant
+  Makes-constant operators =
+      Makes-bind (λ n. n ≤ largest_norm) (IsThis operators) whole (λ n. eat 47 >>= ratio n) Makes-whole (λ n n_within.
+      Makes-bind Anything (IsThis operators) (eat 47) (ratio n) (Makes-eat 47) (λ is_ratio _.
+      Makes-cond (IsThis operators) is_ratio (divisor >>= (λ d. pure (e.Ratio (pos n) (pos d)))) (pure (e.Whole (pos n)))
+      (λ _. Makes-bind IsDivisor (IsThis operators) divisor (λ d. pure (e.Ratio (pos n) (pos d))) Makes-divisor
+      (λ d h. Makes-pure (IsThis operators) (e.Ratio (pos n) (pos d)) (ratio_is ns operators n d n_within h.0 h.1)))
+      (λ _. Makes-pure (IsThis operators) (e.Whole (pos n)) (whole_is ns operators n n_within))))
+    where
+      ratio : ℕ → Bool → Parser Expr
+      ratio n is_ratio = cond is_ratio (divisor >>= (λ d. pure (e.Ratio (pos n) (pos d)))) (pure (e.Whole (pos n)))
+
+  known_place : (letters : List ℕ) (at : ℕ) → known letters names ≡ Variable at → at < length ns
+  known_place letters at found =
+      (position-Some (is_named letters) names.variables at (record { text = []; action = Still; role = Free }) (variable-known letters at names found)).0
+
+  Makes-name : (operators : Bool) → Makes (name names) (IsThis operators)
   unfolding name
   Makes-name operators i j x here h = by (known (spelling i) names) refl h
     where
-      by : (k : Known) → known (spelling i) names ≡ k → name_by names k i ≡ Ok (x, j) → Made (IsFor operators) x j
+      by : (k : Known) → known (spelling i) names ≡ k → name_by names k i ≡ Ok (x, j) → Made (IsThis operators) x j
       by (Variable at) found h =
-          Makes-then (IsFor operators) skip (pure (e.Name at)) Makes-skip (Makes-pure (IsFor operators) (e.Name at) (name_is operators at (known_place (spelling i) at found))) i j x here h
+          let within = known_place (spelling i) at found in
+          Makes-then (IsThis operators) skip (pure (e.Name at)) Makes-skip (Makes-pure (IsThis operators) (e.Name at) (name_is ns operators at (omega (arith, within, few)) (listed_within ns at within))) i j x here h
       by (Let at) found h = cc
       by Unknown found h = cc
 
-  acting_name : (action : Action) (i j : Input) (x : Expr) → IsAt i → (k : Known) → known (spelling i) names ≡ k → acting_by names action k i ≡ Ok (x, j) → Made (IsFor true) x j
-  acting_name action i j x here (Variable at) found h =
-      Makes-cond (IsFor true) (acts_as action (slice_get names.variables at)) (skip >> pure (e.Symbol at)) (fault WrongKind)
-      (λ _. Makes-then (IsFor true) skip (pure (e.Symbol at)) Makes-skip (Makes-pure (IsFor true) (e.Symbol at) (symbol_is at (known_place (spelling i) at found))))
-      (λ _. Makes-fault (IsFor true) WrongKind) i j x here h
-  acting_name action i j x here (Let at) found h = cc
-  acting_name action i j x here Unknown found h = cc
+  acting_name : (action : Action) → IsActing action → (i j : Input) (x : Expr) → IsAt i → (k : Known) → known (spelling i) names ≡ k → acting_by names action k i ≡ Ok (x, j) → Made (IsThis true) x j
+  acting_name action acts i j x here (Variable at) found h =
+      let within = known_place (spelling i) at found in
+      Makes-cond (IsThis true) (acts_as action (slice_get names.variables at)) (skip >> pure (e.Symbol at)) (fault WrongKind)
+      (λ is. Makes-then (IsThis true) skip (pure (e.Symbol at)) Makes-skip (Makes-pure (IsThis true) (e.Symbol at) (symbol_is ns at (omega (arith, within, few)) (symbol_of action (slice_get ns at) acts is))))
+      (λ _. Makes-fault (IsThis true) WrongKind) i j x here h
+  acting_name action acts i j x here (Let at) found h = cc
+  acting_name action acts i j x here Unknown found h = cc
 
-  acting_of : (action : Action) (o : Option Symbol) → Makes (acting_word names action o) (IsFor true)
-  acting_of action (Some Word) i j x here h = acting_name action i j x here (known (spelling i) names) refl h
-  acting_of action (Some Number) i j x here h = cc
-  acting_of action (Some (Sign s)) i j x here h = cc
-  acting_of action (Some Dots) i j x here h = cc
-  acting_of action (Some LineEnd) i j x here h = cc
-  acting_of action None i j x here h = cc
+  acting_of : (action : Action) → IsActing action → (o : Option Symbol) → Makes (acting_word names action o) (IsThis true)
+  acting_of action acts (Some Word) i j x here h = acting_name action acts i j x here (known (spelling i) names) refl h
+  acting_of action acts (Some Number) i j x here h = cc
+  acting_of action acts (Some (Sign s)) i j x here h = cc
+  acting_of action acts (Some Dots) i j x here h = cc
+  acting_of action acts (Some LineEnd) i j x here h = cc
+  acting_of action acts None i j x here h = cc
 
-  Makes-acting : (action : Action) → Makes (acting names action) (IsFor true)
+  Makes-acting : (action : Action) → IsActing action → Makes (acting names action) (IsThis true)
   unfolding acting
-  Makes-acting action = Makes-seen (IsFor true) symbol (acting_word names action) (acting_of action)
+  Makes-acting action acts = Makes-seen (IsThis true) symbol (acting_word names action) (acting_of action acts)
 
-  Makes-symbol : (action : Action) → Makes (symbol_by names action) (IsFor true)
+  Makes-symbol : (action : Action) → IsActing action → Makes (symbol_by names action) (IsThis true)
   unfolding symbol_by
-  Makes-symbol action =
-      Makes-then (IsFor true) _ _ Makes-skip (Makes-then (IsFor true) _ _ (Makes-expect 91)
-      (Makes-bind (IsFor true) (IsFor true) (acting names action) (λ found. expect 93 >> pure found) (Makes-acting action)
-      (λ found h. Makes-then (IsFor true) _ _ (Makes-expect 93) (Makes-pure (IsFor true) found h))))
+  Makes-symbol action acts =
+      Makes-then (IsThis true) _ _ Makes-skip (Makes-then (IsThis true) _ _ (Makes-expect 91)
+      (Makes-bind (IsThis true) (IsThis true) (acting names action) (λ found. expect 93 >> pure found) (Makes-acting action acts)
+      (λ found h. Makes-then (IsThis true) _ _ (Makes-expect 93) (Makes-pure (IsThis true) found h))))
 
-  word_of : (operators : Bool) (o : Option Action) → Makes (word_by names operators operators o) (IsFor operators)
-  word_of operators None = Makes-name operators
-  word_of true (Some action) = Makes-symbol action
-  word_of false (Some action) = Makes-fault (IsFor false) WrongKind
+  word_of : (operators : Bool) (o : Option Action) → HasActing o → Makes (word_by names operators operators o) (IsThis operators)
+  word_of operators None acts = Makes-name operators
+  word_of true (Some action) acts = Makes-symbol action acts
+  word_of false (Some action) acts = Makes-fault (IsThis false) WrongKind
 
-  Makes-word : (operators : Bool) → Makes (word names operators) (IsFor operators)
+  Makes-word : (operators : Bool) → Makes (word names operators) (IsThis operators)
   unfolding word
-  Makes-word operators = Makes-seen (IsFor operators) letter (word_by names operators operators) (word_of operators)
+  Makes-word operators i j x here h = word_of operators (letter i) (letter_acts i) i j x here h
 
-  module _ (operators : Bool) (inner : Parser Expr) (Makes-inner : Makes inner (IsFor operators)) where
-    atom_of : (o : Option Symbol) → Makes (atom_by names operators inner o) (IsFor operators)
+  module _ (operators : Bool) (inner : Parser Expr) (Makes-inner : Makes inner (IsThis operators)) where
+    atom_of : (o : Option Symbol) → Makes (atom_by names operators inner o) (IsThis operators)
     atom_of (Some Number) = Makes-constant operators
     atom_of (Some Word) = Makes-word operators
-    atom_of (Some (Sign s)) = Makes-cond (IsFor operators) (s == 40) inner syntax (λ _. Makes-inner) (λ _. Makes-fault (IsFor operators) Syntax)
-    atom_of (Some Dots) = Makes-fault (IsFor operators) Syntax
-    atom_of (Some LineEnd) = Makes-fault (IsFor operators) Syntax
-    atom_of None = Makes-fault (IsFor operators) Syntax
+    atom_of (Some (Sign s)) = Makes-cond (IsThis operators) (s == 40) inner syntax (λ _. Makes-inner) (λ _. Makes-fault (IsThis operators) Syntax)
+    atom_of (Some Dots) = Makes-fault (IsThis operators) Syntax
+    atom_of (Some LineEnd) = Makes-fault (IsThis operators) Syntax
+    atom_of None = Makes-fault (IsThis operators) Syntax
 
-    Makes-atom : Makes (atom names operators inner) (IsFor operators)
+    Makes-atom : Makes (atom names operators inner) (IsThis operators)
     unfolding atom
-    Makes-atom = Makes-bind Anything (IsFor operators) peek (atom_by names operators inner) (Makes-look Anything symbol (λ _ _. tt)) (λ o _. atom_of o)
+    Makes-atom = Makes-bind Anything (IsThis operators) peek (atom_by names operators inner) (Makes-look Anything symbol (λ _ _. tt)) (λ o _. atom_of o)
 
-    Makes-factor : Makes (factor names operators inner) (IsFor operators)
+    Makes-factor : Makes (factor names operators inner) (IsThis operators)
     unfolding factor
     Makes-factor =
-        Makes-bind (IsFor operators) (IsFor operators) (atom names operators inner) (λ base. eat 94 >>= power base) Makes-atom (λ base h.
-        Makes-bind Anything (IsFor operators) (eat 94) (power base) (Makes-eat 94) (λ is_power _.
-        Makes-cond (IsFor operators) is_power (number largest_degree ExponentTooLarge >>= (λ n. pure (e.Power base n))) (pure base)
-        (λ _. Makes-bind (λ n. n ≤ largest_degree) (IsFor operators) (number largest_degree ExponentTooLarge) (λ n. pure (e.Power base n)) (Makes-number largest_degree ExponentTooLarge) (λ n _. Makes-pure (IsFor operators) (e.Power base n) (power_is operators base n h)))
-        (λ _. Makes-pure (IsFor operators) base h)))
+        Makes-bind (IsThis operators) (IsThis operators) (atom names operators inner) (λ base. eat 94 >>= power base) Makes-atom (λ base h.
+        Makes-bind Anything (IsThis operators) (eat 94) (power base) (Makes-eat 94) (λ is_power _.
+        Makes-cond (IsThis operators) is_power (number largest_degree ExponentTooLarge >>= (λ n. pure (e.Power base n))) (pure base)
+        (λ _. Makes-bind (λ n. n ≤ largest_degree) (IsThis operators) (number largest_degree ExponentTooLarge) (λ n. pure (e.Power base n)) (Makes-number largest_degree ExponentTooLarge) (λ n _. Makes-pure (IsThis operators) (e.Power base n) (power_is ns operators base n h)))
+        (λ _. Makes-pure (IsThis operators) base h)))
       where
         power : Expr → Bool → Parser Expr
         power base is_power = cond is_power (number largest_degree ExponentTooLarge >>= (λ n. pure (e.Power base n))) (pure base)
 
-    Makes-factors : (n : ℕ) (found : List Expr) → Each (IsFor operators) found → Makes (factors_from names operators inner n found) (IsFor operators)
-    unfolding factors_from
-    Makes-factors zero found each = Makes-fault (IsFor operators) Syntax
-    Makes-factors (suc n) found each =
-        Makes-bind (IsFor operators) (IsFor operators) (factor names operators inner) _ Makes-factor (λ x h.
-        Makes-bind Anything (IsFor operators) (eat 42) _ (Makes-eat 42) (λ more _.
-        Makes-cond (IsFor operators) more (factors_from names operators inner n (found ++ x ∷ [])) (pure (product_of (found ++ x ∷ [])))
-        (λ _. Makes-factors n (found ++ x ∷ []) (Each-more (IsFor operators) found x each h))
-        (λ _. Makes-pure (IsFor operators) (product_of (found ++ x ∷ [])) (product_of-is operators (found ++ x ∷ []) (Each-more (IsFor operators) found x each h)))))
+    -- the factors that were found, and one more
+    product_of-more : (found : List Expr) (x : Expr) → Each (IsThis operators) found → IsThis operators x → IsThis operators (product_of (found ++ x ∷ []))
+    product_of-more [] x each h = product_of-is ns operators x [] (h, tt)
+    product_of-more (y ∷ ys) x each h = product_of-is ns operators y (ys ++ x ∷ []) (Each-more (IsThis operators) (y ∷ ys) x each h)
 
-    Makes-term : Makes (term names operators inner) (IsFor operators)
+    Makes-factors : (n : ℕ) (found : List Expr) → Each (IsThis operators) found → Makes (factors_from names operators inner n found) (IsThis operators)
+    unfolding factors_from
+    Makes-factors zero found each = Makes-fault (IsThis operators) Syntax
+    Makes-factors (suc n) found each =
+        Makes-bind (IsThis operators) (IsThis operators) (factor names operators inner) _ Makes-factor (λ x h.
+        Makes-bind Anything (IsThis operators) (eat 42) _ (Makes-eat 42) (λ more _.
+        Makes-cond (IsThis operators) more (factors_from names operators inner n (found ++ x ∷ [])) (pure (product_of (found ++ x ∷ [])))
+        (λ _. Makes-factors n (found ++ x ∷ []) (Each-more (IsThis operators) found x each h))
+        (λ _. Makes-pure (IsThis operators) (product_of (found ++ x ∷ [])) (product_of-more found x each h))))
+
+    Makes-term : Makes (term names operators inner) (IsThis operators)
     unfolding term
-    Makes-term = Makes-seen (IsFor operators) (λ i. length i.left) (λ n. factors_from names operators inner (suc n) []) (λ n. Makes-factors (suc n) [] tt)
+    Makes-term = Makes-seen (IsThis operators) (λ i. length i.left) (λ n. factors_from names operators inner (suc n) []) (λ n. Makes-factors (suc n) [] tt)
 
     Makes-joint : Makes joint Anything
     unfolding joint
@@ -154,40 +207,53 @@ module _ (names : Names) (few : length names.variables ≤ 6) where
         Makes-cond Anything plus (pure (Some false)) (eat 45 >>= (λ minus. pure (cond minus (Some true) None))) (λ _. Makes-pure Anything (Some false) tt)
         (λ _. Makes-bind Anything Anything (eat 45) (λ minus. pure (cond minus (Some true) None)) (Makes-eat 45) (λ minus _. Makes-pure Anything (cond minus (Some true) None) tt)))
 
-    Makes-terms : (n : ℕ) (found : List Summand) → Each (IsTermFor operators) found → Makes (summands_from names operators inner n found) (Each (IsTermFor operators))
-    unfolding summands_from
-    Makes-terms zero found each = Makes-pure (Each (IsTermFor operators)) found each
-    Makes-terms (suc n) found each =
-        Makes-bind Anything (Each (IsTermFor operators)) joint _ Makes-joint (λ sign _.
-        Makes-cond (Each (IsTermFor operators)) (is_none sign) (pure found) (term names operators inner >>= (λ x. summands_from names operators inner n (found ++ summand (is_minus sign) x ∷ [])))
-        (λ _. Makes-pure (Each (IsTermFor operators)) found each)
-        (λ _. Makes-bind (IsFor operators) (Each (IsTermFor operators)) (term names operators inner) (λ x. summands_from names operators inner n (found ++ summand (is_minus sign) x ∷ [])) Makes-term
-        (λ x h. Makes-terms n (found ++ summand (is_minus sign) x ∷ []) (Each-more (IsTermFor operators) found (summand (is_minus sign) x) each (summand_is operators (is_minus sign) x h)))))
+    -- a list of terms that isn't empty
+    abbrev AreTerms : List Summand → Type 0
+    AreTerms [] = ⊥
+    AreTerms (t ∷ ts) = Each (IsThisTerm operators) (t ∷ ts)
 
-    Makes-summands : (first : Expr) (negative : Bool) → IsFor operators first → Makes (summands names operators inner first negative) (Each (IsTermFor operators))
+    one_term_more : (found : List Summand) (t : Summand) → AreTerms found → IsThisTerm operators t → AreTerms (found ++ t ∷ [])
+    one_term_more [] t each h = elim each [ ]
+    one_term_more (u ∷ us) t each h = Each-more (IsThisTerm operators) (u ∷ us) t each h
+
+    sum_of-terms : (terms : List Summand) → AreTerms terms → IsThis operators (e.Sum terms)
+    sum_of-terms [] each = elim each [ ]
+    sum_of-terms (t ∷ ts) each = sum_is ns operators t ts each
+
+    Makes-terms : (n : ℕ) (found : List Summand) → AreTerms found → Makes (summands_from names operators inner n found) AreTerms
+    unfolding summands_from
+    Makes-terms zero found each = Makes-pure AreTerms found each
+    Makes-terms (suc n) found each =
+        Makes-bind Anything AreTerms joint _ Makes-joint (λ sign _.
+        Makes-cond AreTerms (is_none sign) (pure found) (term names operators inner >>= (λ x. summands_from names operators inner n (found ++ summand (is_minus sign) x ∷ [])))
+        (λ _. Makes-pure AreTerms found each)
+        (λ _. Makes-bind (IsThis operators) AreTerms (term names operators inner) (λ x. summands_from names operators inner n (found ++ summand (is_minus sign) x ∷ [])) Makes-term
+        (λ x h. Makes-terms n (found ++ summand (is_minus sign) x ∷ []) (one_term_more found (summand (is_minus sign) x) each (summand_is ns operators (is_minus sign) x h)))))
+
+    Makes-summands : (first : Expr) (negative : Bool) → IsThis operators first → Makes (summands names operators inner first negative) AreTerms
     unfolding summands
     Makes-summands first negative h =
-        Makes-seen (Each (IsTermFor operators)) (λ i. length i.left) (λ n. summands_from names operators inner n (summand negative first ∷ []))
-        (λ n. Makes-terms n (summand negative first ∷ []) (summand_is operators negative first h, tt))
+        Makes-seen AreTerms (λ i. length i.left) (λ n. summands_from names operators inner n (summand negative first ∷ []))
+        (λ n. Makes-terms n (summand negative first ∷ []) (summand_is ns operators negative first h, tt))
 
-    Makes-sum : Makes (sum names operators inner) (IsFor operators)
+    Makes-sum : Makes (sum names operators inner) (IsThis operators)
     unfolding sum
     Makes-sum =
-        Makes-bind Anything (IsFor operators) (eat 45) _ (Makes-eat 45) (λ negative _.
-        Makes-bind (IsFor operators) (IsFor operators) (term names operators inner) _ Makes-term (λ first h.
-        Makes-bind Anything (IsFor operators) (look joins) _ (Makes-look Anything joins (λ _ _. tt)) (λ more _.
-        Makes-cond (IsFor operators) (negative || more) (summands names operators inner first negative >>= (λ terms. pure (e.Sum terms))) (pure first)
-        (λ _. Makes-bind (Each (IsTermFor operators)) (IsFor operators) (summands names operators inner first negative) (λ terms. pure (e.Sum terms)) (Makes-summands first negative h)
-        (λ terms each. Makes-pure (IsFor operators) (e.Sum terms) (sum_is operators terms each)))
-        (λ _. Makes-pure (IsFor operators) first h))))
+        Makes-bind Anything (IsThis operators) (eat 45) _ (Makes-eat 45) (λ negative _.
+        Makes-bind (IsThis operators) (IsThis operators) (term names operators inner) _ Makes-term (λ first h.
+        Makes-bind Anything (IsThis operators) (look joins) _ (Makes-look Anything joins (λ _ _. tt)) (λ more _.
+        Makes-cond (IsThis operators) (negative || more) (summands names operators inner first negative >>= (λ terms. pure (e.Sum terms))) (pure first)
+        (λ _. Makes-bind AreTerms (IsThis operators) (summands names operators inner first negative) (λ terms. pure (e.Sum terms)) (Makes-summands first negative h)
+        (λ terms each. Makes-pure (IsThis operators) (e.Sum terms) (sum_of-terms terms each)))
+        (λ _. Makes-pure (IsThis operators) first h))))
 
-  Makes-nested : (operators : Bool) (depth : ℕ) → Makes (nested names operators depth) (IsFor operators)
+  Makes-nested : (operators : Bool) (depth : ℕ) → Makes (nested names operators depth) (IsThis operators)
   unfolding nested
-  Makes-nested operators zero = Makes-fault (IsFor operators) TooDeep
+  Makes-nested operators zero = Makes-fault (IsThis operators) TooDeep
   Makes-nested operators (suc depth) =
-      Makes-then (IsFor operators) _ _ Makes-skip
-      (Makes-bind (IsFor operators) (IsFor operators) (sum names operators (nested names operators depth)) (λ inner. expect 41 >> pure inner) (Makes-sum operators (nested names operators depth) (Makes-nested operators depth))
-      (λ inner h. Makes-then (IsFor operators) _ _ (Makes-expect 41) (Makes-pure (IsFor operators) inner h)))
+      Makes-then (IsThis operators) _ _ Makes-skip
+      (Makes-bind (IsThis operators) (IsThis operators) (sum names operators (nested names operators depth)) (λ inner. expect 41 >> pure inner) (Makes-sum operators (nested names operators depth) (Makes-nested operators depth))
+      (λ inner h. Makes-then (IsThis operators) _ _ (Makes-expect 41) (Makes-pure (IsThis operators) inner h)))
 
-  pub Makes-expression : (operators : Bool) → Makes (expression names operators) (IsFor operators)
+  pub Makes-expression : (operators : Bool) → Makes (expression names operators) (IsFor names.variables operators)
   Makes-expression operators = Makes-sum operators (nested names operators 64) (Makes-nested operators 64)

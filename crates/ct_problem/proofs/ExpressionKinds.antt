@@ -1,13 +1,15 @@
--- Which expressions can be evaluated, and which have no symbol, kind by kind.
---     IsFor operators x     what is known of an expression with operators or without
-use Rattle.std.proofs.Common.{◌≡◌, ◌≢◌, ℕ, zero, suc, ◌<◌, ◌≤◌, Bool, true, false, List, [], ◌∷◌, ◌++◌, map, IsTrue, pos, nat_lt, refl, sym, ap, ◌∙◌, arith}
+-- Which expressions can be evaluated, which are over the names of a list, and which have no symbol, kind by kind.
+--     IsFor names operators x     what is known of an expression over these names, with operators or without
+use Rattle.std.proofs.Common.{◌≡◌, ◌≢◌, ℕ, zero, suc, ◌<◌, ◌≤◌, Bool, true, false, List, [], ◌∷◌, ◌++◌, map, IsTrue, pos, nat_lt, slice_get, refl, sym, ap, ◌∙◌, arith}
 use Rattle.std.proofs.lemmas.Bool.{false≢true, le-leb}
 use Rattle.ct_mono.specs.Limits.{largest_norm}
 use Rattle.ct_expr.specs.declared.expr.Expr.{Expr}
 use Rattle.ct_expr.specs.declared.expr.Expr.TheVariants as e
 use Rattle.ct_expr.specs.declared.expr.Expr.TheFolds.{fold-roll-Expr, fold-roll-Summand}
 use Rattle.ct_expr.specs.declared.expr.Summand.{Summand}
+use Rattle.ct_ore.specs.Naming.{Naming}
 use Rattle.ct_problem.specs.Grammar.{product_of, summand}
+use Rattle.ct_problem.specs.OverNames.{is_over, is_over_term, over_step, is_listed, has_symbol, some_all_true}
 use Rattle.ct_expr.specs.Value.{is_evaluable, is_evaluable_term, has_no_symbol, has_no_symbol_term, no_symbol_step, all_true}
 use Rattle.ct_problem.specs.WellFormed.{Each}
 use Rattle.ct_expr.proofs.Values.{evaluable-Whole, evaluable-Ratio, evaluable-Name, evaluable-Symbol, evaluable-Sum, evaluable-Product, evaluable-Power}
@@ -36,6 +38,39 @@ no_symbol-Power : (base : Expr) (n : ℕ) → has_no_symbol (e.Power base n) ≡
 unfolding has_no_symbol no_symbol_step
 no_symbol-Power base n = ap has_no_symbol (sym (e.rolls-Power base n)) ∙ fold-roll-Expr _ _ _ _ _
 
+module _ (ns : List Naming) where
+  over-Whole : (n : ℕ) → is_over ns (e.Whole (pos n)) ≡ true
+  unfolding is_over over_step
+  over-Whole n = ap (is_over ns) (sym (e.rolls-Whole (pos n))) ∙ fold-roll-Expr _ _ _ _ _
+
+  over-Ratio : (n d : ℕ) → is_over ns (e.Ratio (pos n) (pos d)) ≡ true
+  unfolding is_over over_step
+  over-Ratio n d = ap (is_over ns) (sym (e.rolls-Ratio (pos n) (pos d))) ∙ fold-roll-Expr _ _ _ _ _
+
+  over-Name : (i : ℕ) → is_over ns (e.Name i) ≡ is_listed (slice_get ns i)
+  unfolding is_over over_step
+  over-Name i = ap (is_over ns) (sym (e.rolls-Name i)) ∙ fold-roll-Expr _ _ _ _ _
+
+  over-Symbol : (i : ℕ) → is_over ns (e.Symbol i) ≡ has_symbol (slice_get ns i)
+  unfolding is_over over_step
+  over-Symbol i = ap (is_over ns) (sym (e.rolls-Symbol i)) ∙ fold-roll-Expr _ _ _ _ _
+
+  over-Sum : (terms : List Summand) → is_over ns (e.Sum terms) ≡ some_all_true (map (is_over_term ns) terms)
+  unfolding is_over is_over_term over_step
+  over-Sum terms = ap (is_over ns) (sym (e.rolls-Sum terms)) ∙ fold-roll-Expr _ _ _ _ _
+
+  over-Product : (factors : List Expr) → is_over ns (e.Product factors) ≡ some_all_true (map (is_over ns) factors)
+  unfolding is_over over_step
+  over-Product factors = ap (is_over ns) (sym (e.rolls-Product factors)) ∙ fold-roll-Expr _ _ _ _ _
+
+  over-Power : (base : Expr) (n : ℕ) → is_over ns (e.Power base n) ≡ is_over ns base
+  unfolding is_over over_step
+  over-Power base n = ap (is_over ns) (sym (e.rolls-Power base n)) ∙ fold-roll-Expr _ _ _ _ _
+
+  over-summand : (negative : Bool) (x : Expr) → is_over_term ns (summand negative x) ≡ is_over ns x
+  unfolding is_over is_over_term
+  over-summand negative x = fold-roll-Summand _ _ _ _ _
+
 evaluable-summand : (negative : Bool) (x : Expr) → is_evaluable_term (summand negative x) ≡ is_evaluable x
 unfolding is_evaluable is_evaluable_term
 evaluable-summand negative x = fold-roll-Summand _ _ _ _ _
@@ -44,14 +79,16 @@ no_symbol-summand : (negative : Bool) (x : Expr) → has_no_symbol_term (summand
 unfolding has_no_symbol has_no_symbol_term
 no_symbol-summand negative x = fold-roll-Summand _ _ _ _ _
 
--- ---- what is known of an expression, with operators or without
+-- ---- what is known of an expression over names, with operators or without
 
-pub record IsFor (operators : Bool) (x : Expr) : Type 0 where
+pub record IsFor (ns : List Naming) (operators : Bool) (x : Expr) : Type 0 where
   pub evaluable : IsTrue (is_evaluable x)
+  pub over : IsTrue (is_over ns x)
   pub plain : operators ≡ false → IsTrue (has_no_symbol x)
 
-pub record IsTermFor (operators : Bool) (t : Summand) : Type 0 where
+pub record IsTermFor (ns : List Naming) (operators : Bool) (t : Summand) : Type 0 where
   pub evaluable : IsTrue (is_evaluable_term t)
+  pub over : IsTrue (is_over_term ns t)
   pub plain : operators ≡ false → IsTrue (has_no_symbol_term t)
 
 pub Each-more : {X : Type 0} (P : X → Type 0) (xs : List X) (x : X) → Each P xs → P x → Each P (xs ++ x ∷ [])
@@ -62,6 +99,9 @@ all_true-of : {X : Type 0} (test : X → Bool) (P : X → Type 0) (xs : List X) 
 all_true-of test P [] h each = refl
 all_true-of test P (x ∷ xs) h each = rw (h x each.0) (all_true-of test P xs h each.1)
 
+some_all_true-of : {X : Type 0} (test : X → Bool) (P : X → Type 0) (x : X) (xs : List X) → ((x : X) → P x → IsTrue (test x)) → Each P (x ∷ xs) → IsTrue (some_all_true (map test (x ∷ xs)))
+some_all_true-of test P x xs h each = rw (h x each.0) (all_true-of test P xs h each.1)
+
 -- ---- the kinds of expressions
 
 small : (at : ℕ) → at < 6 → IsTrue (nat_lt at 6)
@@ -71,43 +111,66 @@ not_zero : (d : ℕ) → d ≢ 0 → IsTrue (nat_lt 0 d)
 not_zero zero other = absurd (other refl)
 not_zero (suc d) other = le-leb 1 (suc d) (omega arith)
 
-pub symbol_is : (at : ℕ) → at < 6 → IsFor true (e.Symbol at)
-symbol_is at below = record { evaluable = rw (evaluable-Symbol at) (small at below); plain = λ no. absurd (false≢true (sym no)) }
-
-module _ (operators : Bool) where
-  pub name_is : (at : ℕ) → at < 6 → IsFor operators (e.Name at)
-  name_is at below = record { evaluable = rw (evaluable-Name at) (small at below); plain = λ _. no_symbol-Name at }
-
-  pub whole_is : (n : ℕ) → n ≤ largest_norm → IsFor operators (e.Whole (pos n))
-  whole_is n within = record { evaluable = rw (evaluable-Whole (pos n)) (le-leb n largest_norm within); plain = λ _. no_symbol-Whole n }
-
-  -- a quotient of two numbers, the second of which isn't 0
-  pub ratio_is : (n d : ℕ) → n ≤ largest_norm → d ≤ largest_norm → d ≢ 0 → IsFor operators (e.Ratio (pos n) (pos d))
-  ratio_is n d n_within d_within some = record {
-    evaluable = rw (evaluable-Ratio (pos n) (pos d), le-leb n largest_norm n_within, le-leb d largest_norm d_within, not_zero d some) refl;
-    plain = λ _. no_symbol-Ratio n d;
+module _ (ns : List Naming) where
+  pub symbol_is : (at : ℕ) → at < 6 → IsTrue (has_symbol (slice_get ns at)) → IsFor ns true (e.Symbol at)
+  symbol_is at below acts = record {
+    evaluable = rw (evaluable-Symbol at) (small at below);
+    over = rw (over-Symbol ns at) acts;
+    plain = λ no. absurd (false≢true (sym no));
   }
 
-  pub summand_is : (negative : Bool) (x : Expr) → IsFor operators x → IsTermFor operators (summand negative x)
-  summand_is negative x h = record { evaluable = rw (evaluable-summand negative x) h.evaluable; plain = λ none. rw (no_symbol-summand negative x) (h.plain none) }
+  module _ (operators : Bool) where
+    pub name_is : (at : ℕ) → at < 6 → IsTrue (is_listed (slice_get ns at)) → IsFor ns operators (e.Name at)
+    name_is at below listed = record {
+      evaluable = rw (evaluable-Name at) (small at below);
+      over = rw (over-Name ns at) listed;
+      plain = λ _. no_symbol-Name at;
+    }
 
-  pub sum_is : (terms : List Summand) → Each (IsTermFor operators) terms → IsFor operators (e.Sum terms)
-  sum_is terms each = record {
-    evaluable = rw (evaluable-Sum terms) (all_true-of is_evaluable_term (IsTermFor operators) terms (λ t h. h.evaluable) each);
-    plain = λ none. rw (no_symbol-Sum terms) (all_true-of has_no_symbol_term (IsTermFor operators) terms (λ t h. h.plain none) each);
-  }
+    pub whole_is : (n : ℕ) → n ≤ largest_norm → IsFor ns operators (e.Whole (pos n))
+    whole_is n within = record {
+      evaluable = rw (evaluable-Whole (pos n)) (le-leb n largest_norm within);
+      over = over-Whole ns n;
+      plain = λ _. no_symbol-Whole n;
+    }
 
-  product_is : (factors : List Expr) → Each (IsFor operators) factors → IsFor operators (e.Product factors)
-  product_is factors each = record {
-    evaluable = rw (evaluable-Product factors) (all_true-of is_evaluable (IsFor operators) factors (λ x h. h.evaluable) each);
-    plain = λ none. rw (no_symbol-Product factors) (all_true-of has_no_symbol (IsFor operators) factors (λ x h. h.plain none) each);
-  }
+    -- a quotient of two numbers, the second of which isn't 0
+    pub ratio_is : (n d : ℕ) → n ≤ largest_norm → d ≤ largest_norm → d ≢ 0 → IsFor ns operators (e.Ratio (pos n) (pos d))
+    ratio_is n d n_within d_within some = record {
+      evaluable = rw (evaluable-Ratio (pos n) (pos d), le-leb n largest_norm n_within, le-leb d largest_norm d_within, not_zero d some) refl;
+      over = over-Ratio ns n d;
+      plain = λ _. no_symbol-Ratio n d;
+    }
 
-  pub product_of-is : (factors : List Expr) → Each (IsFor operators) factors → IsFor operators (product_of factors)
-  unfolding product_of
-  product_of-is [] each = product_is [] each
-  product_of-is (x ∷ []) each = each.0
-  product_of-is (x ∷ y ∷ more) each = product_is (x ∷ y ∷ more) each
+    pub summand_is : (negative : Bool) (x : Expr) → IsFor ns operators x → IsTermFor ns operators (summand negative x)
+    summand_is negative x h = record {
+      evaluable = rw (evaluable-summand negative x) h.evaluable;
+      over = rw (over-summand ns negative x) h.over;
+      plain = λ none. rw (no_symbol-summand negative x) (h.plain none);
+    }
 
-  pub power_is : (base : Expr) (n : ℕ) → IsFor operators base → IsFor operators (e.Power base n)
-  power_is base n h = record { evaluable = rw (evaluable-Power base n) h.evaluable; plain = λ none. rw (no_symbol-Power base n) (h.plain none) }
+    pub sum_is : (t : Summand) (ts : List Summand) → Each (IsTermFor ns operators) (t ∷ ts) → IsFor ns operators (e.Sum (t ∷ ts))
+    sum_is t ts each = record {
+      evaluable = rw (evaluable-Sum (t ∷ ts)) (all_true-of is_evaluable_term (IsTermFor ns operators) (t ∷ ts) (λ t h. h.evaluable) each);
+      over = rw (over-Sum ns (t ∷ ts)) (some_all_true-of (is_over_term ns) (IsTermFor ns operators) t ts (λ t h. h.over) each);
+      plain = λ none. rw (no_symbol-Sum (t ∷ ts)) (all_true-of has_no_symbol_term (IsTermFor ns operators) (t ∷ ts) (λ t h. h.plain none) each);
+    }
+
+    product_is : (x : Expr) (xs : List Expr) → Each (IsFor ns operators) (x ∷ xs) → IsFor ns operators (e.Product (x ∷ xs))
+    product_is x xs each = record {
+      evaluable = rw (evaluable-Product (x ∷ xs)) (all_true-of is_evaluable (IsFor ns operators) (x ∷ xs) (λ x h. h.evaluable) each);
+      over = rw (over-Product ns (x ∷ xs)) (some_all_true-of (is_over ns) (IsFor ns operators) x xs (λ x h. h.over) each);
+      plain = λ none. rw (no_symbol-Product (x ∷ xs)) (all_true-of has_no_symbol (IsFor ns operators) (x ∷ xs) (λ x h. h.plain none) each);
+    }
+
+    pub product_of-is : (x : Expr) (xs : List Expr) → Each (IsFor ns operators) (x ∷ xs) → IsFor ns operators (product_of (x ∷ xs))
+    unfolding product_of
+    product_of-is x [] each = each.0
+    product_of-is x (y ∷ more) each = product_is x (y ∷ more) each
+
+    pub power_is : (base : Expr) (n : ℕ) → IsFor ns operators base → IsFor ns operators (e.Power base n)
+    power_is base n h = record {
+      evaluable = rw (evaluable-Power base n) h.evaluable;
+      over = rw (over-Power ns base n) h.over;
+      plain = λ none. rw (no_symbol-Power base n) (h.plain none);
+    }

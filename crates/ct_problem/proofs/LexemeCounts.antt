@@ -13,7 +13,8 @@ use Rattle.ct_problem.specs.declared.report.Report.{Report}
 use Rattle.ct_problem.specs.GrammarReport.{ReportStandsFor, cofactors}
 use Rattle.ct_problem.specs.Lexemes.{Lexeme, Word, Texts, ◌▸◌, lexemes}
 use Rattle.ct_problem.specs.Names.{Names}
-use Rattle.ct_problem.specs.Plain.{is_plain, most_bytes}
+use Rattle.ct_problem.specs.Limits.{most_bytes}
+use Rattle.ct_problem.specs.Plain.{is_plain}
 use Rattle.ct_problem.specs.ReadProblem.{input_of_scan}
 use Rattle.ct_problem.proofs.Cursors.{both_pass}
 use Rattle.ct_problem.proofs.JoinedTexts.{joined_to_right}

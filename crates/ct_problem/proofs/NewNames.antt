@@ -20,7 +20,7 @@ use Rattle.ct_problem.specs.Declarations.{new_name, spelled_word}
 use Rattle.ct_problem.specs.Names.{Names, is_named, is_new, is_unknown, is_letter_of_symbol, known, known_by}
 use Rattle.ct_problem.proofs.Cursors.{both_pass}
 use Rattle.ct_problem.proofs.Slices.{slice_of-slice}
-use Rattle.ct_problem.proofs.Steps.{Made, Makes, Makes-pure, Makes-unless, Makes-bind, Makes-then, Makes-skip}
+use Rattle.ct_problem.proofs.Steps.{Made, Makes, Makes-pure, Makes-fault_if, Makes-bind, Makes-then, Makes-skip}
 
 -- ---- words
 
@@ -115,8 +115,8 @@ pub Makes-new_name : (names : Names) → Makes (new_name names) (IsNew names.var
 unfolding new_name
 Makes-new_name names =
     Makes-bind IsWord P (peek >>= spelled_word) _ Makes-spelled (λ text word.
-    Makes-unless P (nat_lt 32 (length text)) NameTooLong _ (λ _.
-    Makes-unless P (not (is_new text names)) DuplicateName (skip >> pure text) (λ new.
+    Makes-fault_if P (nat_lt 32 (length text)) NameTooLong _ (λ _.
+    Makes-fault_if P (not (is_new text names)) DuplicateName (skip >> pure text) (λ new.
     Makes-then P skip (pure text) Makes-skip (Makes-pure P text (is_new_gives text names word (not_false (is_new text names) new))))))
   where
     P : List ℕ → Type 0

@@ -20,7 +20,7 @@ use Rattle.ct_problem.specs.DenLines.{Dens, no_dens, is_given, with_den, summed_
 use Rattle.ct_problem.specs.LetLines.{Definition, with_definitions, list_name, let_form, definition, let_lines, let_lines_from}
 use Rattle.ct_problem.specs.Lines.{header, no_more, value, value_lines, value_lines_from}
 use Rattle.ct_problem.specs.Names.{Names, summed_texts}
-use Rattle.ct_problem.specs.Number.{unless, exactly}
+use Rattle.ct_problem.specs.Number.{fault_if, exactly}
 use Rattle.ct_problem.specs.ProblemLines.{used, listed_or_used, generators, range, range_line}
 use Rattle.ct_problem.specs.ReadProblem.{head, body}
 use Rattle.ct_problem.proofs.SpelledRuns.{Goes_on}
@@ -49,9 +49,9 @@ module _ {A : Type 0} where
   Settles-fault : (kind : BadKind) → Settles {A = A} (fault kind)
   Settles-fault kind i j y s e = cc
 
-  Settles-unless : (b : Bool) (kind : BadKind) (p : Parser A) → Settles p → Settles (unless b kind >> p)
-  Settles-unless true kind p rest i j x s e = cc
-  Settles-unless false kind p rest i j x s e = rest i j x s e
+  Settles-fault_if : (b : Bool) (kind : BadKind) (p : Parser A) → Settles p → Settles (fault_if b kind >> p)
+  Settles-fault_if true kind p rest i j x s e = cc
+  Settles-fault_if false kind p rest i j x s e = rest i j x s e
 
 module _ {A B : Type 0} where
   first_of_both : (f : A → Parser B) (j : Input) (y : B) (o : Outcome A) → ((x : A) (k : Input) → o ≡ Ok (x, k) → Settled k) → ((x : A) → Settles (f x)) → and_then o f ≡ Ok (y, j) → Settled j
@@ -108,9 +108,9 @@ Settles-line key p q line none i j x s e = by (sees_word key i) e
 
 Settles-no_more : (key : List ℕ) → Settles (no_more key)
 unfolding no_more
-Settles-no_more key = Settles-bind (look (sees_word key)) (λ more. unless more TooMany) (Settles-look (sees_word key)) by
+Settles-no_more key = Settles-bind (look (sees_word key)) (λ more. fault_if more TooMany) (Settles-look (sees_word key)) by
   where
-    by : (more : Bool) → Settles (unless more TooMany)
+    by : (more : Bool) → Settles (fault_if more TooMany)
     by true = Settles-fault TooMany
     by false = Settles-pure tt
 
@@ -129,14 +129,14 @@ Settling-header kind =
 Settling-declaration : (line : NameLine) (found : List Naming) → Settling (declaration line found)
 unfolding declaration
 Settling-declaration line found =
-    Settling-after (unless (is_full line found) TooMany) (λ _. skip >> (new_name (declared found) >>= (λ text. action_of_line line >>= (λ action. line_end >> pure (record { text = text; action = action; role = role_of_line line }))))) (λ _.
+    Settling-after (fault_if (is_full line found) TooMany) (λ _. skip >> (new_name (declared found) >>= (λ text. action_of_line line >>= (λ action. line_end >> pure (record { text = text; action = action; role = role_of_line line }))))) (λ _.
     Settling-after skip (λ _. new_name (declared found) >>= (λ text. action_of_line line >>= (λ action. line_end >> pure (record { text = text; action = action; role = role_of_line line })))) (λ _.
     Settling-after (new_name (declared found)) (λ text. action_of_line line >>= (λ action. line_end >> pure (record { text = text; action = action; role = role_of_line line }))) (λ text.
     Settling-after (action_of_line line) (λ action. line_end >> pure (record { text = text; action = action; role = role_of_line line })) (λ action. ended (record { text = text; action = action; role = role_of_line line })))))
 
 full_settles : (found : List Naming) (o : Option NameLine) → Settles (full_by found o)
 full_settles found None = Settles-pure found
-full_settles found (Some line) = Settles-unless true TooMany (pure found) (Settles-pure found)
+full_settles found (Some line) = Settles-fault_if true TooMany (pure found) (Settles-pure found)
 
 line_settles : (n : ℕ) (found : List Naming) → ((m : Naming) → Settles (declarations_from n (found ++ m ∷ []))) → (o : Option NameLine) → Settles (declarations_by (λ line. declaration line found >>= (λ naming. declarations_from n (found ++ naming ∷ []))) found o)
 line_settles n found more None = Settles-pure found

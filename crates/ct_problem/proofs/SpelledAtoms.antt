@@ -16,7 +16,7 @@ use Rattle.ct_problem.specs.declared.reading.names.Known.TheVariants.{Variable, 
 use Rattle.ct_problem.specs.Input.{Input, Parser, ◌>>=◌, ◌>>◌, pure, fault, syntax, skip, next, eat, expect, sees_word, spelling}
 use Rattle.ct_problem.specs.Input as input
 use Rattle.ct_problem.specs.Names.{Names, known, acts_as}
-use Rattle.ct_problem.specs.Number.{unless}
+use Rattle.ct_problem.specs.Number.{fault_if}
 use Rattle.ct_problem.specs.Expressions.{name_by, name, acting_by, acting_word, acting, symbol_by, letter, word_by, word, whole, divisor, constant, atom_by, atom}
 use Rattle.ct_problem.specs.Lexemes.{Lexeme, Word, Sign, Texts, one, optional, number, ◌▸◌}
 use Rattle.ct_problem.specs.Grammar.{IsAtom, IsActing}
@@ -49,7 +49,7 @@ Divisor d ls = (d ≢ 0) × number largest_norm d ls
 
 Spells-divisor : Spells divisor Divisor
 unfolding divisor
-Spells-divisor = Spells-coming Divisor (λ n. unless (n == 0) ZeroDenominator >> (skip >> pure n)) (λ n i j x c h.
+Spells-divisor = Spells-coming Divisor (λ n. fault_if (n == 0) ZeroDenominator >> (skip >> pure n)) (λ n i j x c h.
     let t = test_failed (n == 0) ZeroDenominator (skip >> pure n) i j x h in
     let none = t.0 in
     let some : n ≢ 0 = λ zero. first_of (search (rules, tests), grind (arith, tests)) in

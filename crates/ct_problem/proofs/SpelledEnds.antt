@@ -12,7 +12,7 @@ use Rattle.ct_problem.specs.declared.fault.BadKind.TheVariants.{Missing}
 use Rattle.ct_problem.specs.Input.{Input, ◌>>=◌, ◌>>◌, pure, skip, syntax, spelling_in, fresh_line, fresh_by, has_line_end, sees_word, is_word}
 use Rattle.ct_problem.specs.GrammarProblem.{IsEnd, MayFollow}
 use Rattle.ct_problem.specs.Lexemes.{Lexeme, Word, lexeme_of, lexemes}
-use Rattle.ct_problem.specs.Number.{unless}
+use Rattle.ct_problem.specs.Number.{fault_if}
 use Rattle.ct_problem.specs.ReadProblem.{Reading, lacks, has_needs, ending, ending_by, nothing_left, trailing_by, behind_end, last_line}
 use Rattle.ct_problem.proofs.LexemeSteps.{sees_word-shown}
 use Rattle.ct_problem.proofs.NewNames.{not_false}
@@ -102,7 +102,7 @@ no_line_end s e = ap is_line_end e
 
 module _ (command : Command) (p : Reading) (text : List ℕ) (bad : Option ℕ) (place : ℕ) (m : Input) where
   after_word : (t : Token) (ts : List Token) → Settled (at text (t ∷ ts) bad) → sees_word (codes "end") (at text (t ∷ ts) bad) ≡ true
-      → (unless (lacks command p) Missing >> (skip >> (ending >>= (λ x. behind_end command >> pure x)))) (at text (t ∷ ts) bad) ≡ Ok (place, m) → Last command p text (t ∷ ts) bad place
+      → (fault_if (lacks command p) Missing >> (skip >> (ending >>= (λ x. behind_end command >> pure x)))) (at text (t ∷ ts) bad) ≡ Ok (place, m) → Last command p text (t ∷ ts) bad place
   unfolding at lacks sees_word has_line_end
   after_word t ts settled begins h =
       let test = test_failed (lacks command p) Missing (skip >> (ending >>= (λ x. behind_end command >> pure x))) (at text (t ∷ ts) bad) m place h in
@@ -126,7 +126,7 @@ module _ (command : Command) (p : Reading) (text : List ℕ) (bad : Option ℕ) 
       last t is = rw (no_line_end t.symbol is) refl
 
   last_of : (left : List Token) → Settled (at text left bad) → (b : Bool) → sees_word (codes "end") (at text left bad) ≡ b
-      → (cond b (unless (lacks command p) Missing) syntax >> (skip >> (ending >>= (λ x. behind_end command >> pure x)))) (at text left bad) ≡ Ok (place, m) → Last command p text left bad place
+      → (cond b (fault_if (lacks command p) Missing) syntax >> (skip >> (ending >>= (λ x. behind_end command >> pure x)))) (at text left bad) ≡ Ok (place, m) → Last command p text left bad place
   unfolding at sees_word
   last_of [] settled true begins h = absurd (false≢true begins)
   last_of (t ∷ ts) settled true begins h = after_word t ts settled begins h

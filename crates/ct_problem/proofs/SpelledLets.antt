@@ -24,7 +24,7 @@ use Rattle.ct_problem.specs.Grammar.{IsExpression}
 use Rattle.ct_problem.specs.GrammarLets as lets
 use Rattle.ct_problem.specs.GrammarLets.{IsList}
 use Rattle.ct_problem.specs.Names.{Names, is_named, known, known_by}
-use Rattle.ct_problem.specs.Number.{unless}
+use Rattle.ct_problem.specs.Number.{fault_if}
 use Rattle.ct_problem.proofs.JoinedTexts.{replaced, nothing_joined, joined_to_left, joined_to_right}
 use Rattle.ct_problem.proofs.LexemeSteps.{shown, sees_word-shown, shown-symbol}
 use Rattle.ct_problem.proofs.Spelling.{Spelled, Spells, Continues, Spells-bind, Spells-eat_word, Spells-expect, Spells-eat, Continues-pure, Continues-bind, Continues-last, taken, after_taken, moved, shows_word-gives}
@@ -78,7 +78,7 @@ module _ (names : Names) where
   unfolding one_too_many
   none_listed found i j x e = by (begins_expression (input.symbol i)) e
     where
-      by : (b : Bool) → (unless b TooMany >> input.syntax) i ≡ Ok (x, j) → Spelled (MoreListed 0 found x) i j
+      by : (b : Bool) → (fault_if b TooMany >> input.syntax) i ≡ Ok (x, j) → Spelled (MoreListed 0 found x) i j
       by true h = cc
       by false h = cc
 

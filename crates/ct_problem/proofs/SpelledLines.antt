@@ -4,7 +4,7 @@ use Rattle.std.proofs.lemmas.List.{append_assoc, append-nil}
 use Rattle.ct_expr.specs.declared.expr.Expr.{Expr}
 use Rattle.ct_problem.specs.declared.fault.BadKind.TheVariants.{TooMany}
 use Rattle.ct_problem.specs.Input.{Parser, ◌>>=◌, ◌>>◌, pure, look, eat_word, expect, expect_word, sees_word, line_end}
-use Rattle.ct_problem.specs.Number.{unless}
+use Rattle.ct_problem.specs.Number.{fault_if}
 use Rattle.ct_problem.specs.Number as digits
 use Rattle.ct_problem.specs.Expressions.{expression}
 use Rattle.ct_problem.specs.Lines as read
@@ -34,12 +34,12 @@ Goes-header kind =
 -- a test that takes nothing
 pub Goes-no_more : (key : List ℕ) → Goes nothing (read.no_more key) (λ _. nothing)
 unfolding read.no_more
-Goes-no_more key = Goes-first nothing (λ (_ : Bool). nothing) N (look (sees_word key)) (λ more. unless more TooMany) (Goes-look nothing (λ _. nothing) (sees_word key) (λ x ls h. h)) by
+Goes-no_more key = Goes-first nothing (λ (_ : Bool). nothing) N (look (sees_word key)) (λ more. fault_if more TooMany) (Goes-look nothing (λ _. nothing) (sees_word key) (λ x ls h. h)) by
   where
     N : Unit {0} → Texts
     N _ = nothing
 
-    by : (more : Bool) → Goes nothing (unless more TooMany) N
+    by : (more : Bool) → Goes nothing (fault_if more TooMany) N
     by true = Goes-fault nothing N TooMany
     by false = Goes-pure nothing N tt (λ ls h. h)
 

@@ -13,7 +13,7 @@ use Rattle.ct_problem.specs.Input.{Input, Outcome, Parser, ◌>>=◌, ◌>>◌, 
 use Rattle.ct_problem.specs.Input as input
 use Rattle.ct_problem.specs.Declarations.{name_line, spelled_word, new_name, free_action, action_of_line, role_of_line, is_full, declared, declaration, declarations_by, full_by, declarations_from, some_names, declarations}
 use Rattle.ct_problem.specs.Names.{Names, is_new}
-use Rattle.ct_problem.specs.Number.{unless}
+use Rattle.ct_problem.specs.Number.{fault_if}
 use Rattle.ct_problem.specs.Lexemes.{Lexeme, Word, LineEnd, Texts, nothing, one, optional, ◌▸◌}
 use Rattle.ct_problem.specs.GrammarLets as lets
 use Rattle.ct_problem.specs.GrammarLets.{IsDeclarable}
@@ -24,7 +24,7 @@ use Rattle.ct_problem.proofs.LexemeSteps.{shown, after_first, sees_word-shown, s
 use Rattle.ct_problem.proofs.NewNames.{not_false}
 use Rattle.ct_problem.proofs.Spelling.{Spells, Continues, Spells-bind, Spells-eat_word, Spells-expect_word, Continues-pure, Continues-bind, taken, after_taken, moved, shows_word-gives}
 use Rattle.ct_problem.proofs.SpelledSteps.{first_read, test_failed}
-use Rattle.ct_problem.proofs.SpelledRuns.{Going, Goes, Goes-pure, Goes-fault, Goes-unless, Goes-seen, Goes-as, Goes-bind, Goes-first, Goes-then, Goes-line_end, by_only}
+use Rattle.ct_problem.proofs.SpelledRuns.{Going, Goes, Goes-pure, Goes-fault, Goes-fault_if, Goes-seen, Goes-as, Goes-bind, Goes-first, Goes-then, Goes-line_end, by_only}
 
 -- ---- a name that is declared
 
@@ -58,10 +58,10 @@ Spells-new_name names i j x e =
     moved (lets.declared names) i r.value x (next i) j here (record { used = s.used; parts = s.parts; spells = (fits, s.spells); follows = s.follows })
   where
     unless_old : List ℕ → Parser (List ℕ)
-    unless_old text = unless (not (is_new text names)) DuplicateName >> (skip >> pure text)
+    unless_old text = fault_if (not (is_new text names)) DuplicateName >> (skip >> pure text)
 
     unless_long : List ℕ → Parser (List ℕ)
-    unless_long text = unless (nat_lt 32 (length text)) NameTooLong >> unless_old text
+    unless_long text = fault_if (nat_lt 32 (length text)) NameTooLong >> unless_old text
 
 -- ---- a name line
 
@@ -159,7 +159,7 @@ no_name found ls none = record { more = []; value = sym (append-nil found); spel
 
 full_goes : (found : List Naming) (o : Option NameLine) → Goes nothing (full_by found o) (MoreNames found)
 full_goes found None = Goes-pure nothing (MoreNames found) found (no_name found)
-full_goes found (Some line) = Goes-unless nothing (MoreNames found) true TooMany (pure found) (λ h. absurd (false≢true (sym h)))
+full_goes found (Some line) = Goes-fault_if nothing (MoreNames found) true TooMany (pure found) (λ h. absurd (false≢true (sym h)))
 
 one_name : (n : ℕ) (found : List Naming) → ((x : Naming) → Goes nothing (declarations_from n (found ++ x ∷ [])) (MoreNames (found ++ x ∷ []))) → (x : Naming) → Goes (Line found x) (declarations_from n (found ++ x ∷ [])) (MoreNames found)
 unfolding Line

@@ -17,7 +17,7 @@ use Rattle.ct_problem.specs.Lexemes.{Lexeme, Word, Dots, LineEnd, Texts, nothing
 use Rattle.ct_problem.specs.Lines.{no_more, value_lines}
 use Rattle.ct_problem.specs.Lines as read
 use Rattle.ct_problem.specs.Names.{Names}
-use Rattle.ct_problem.specs.Number.{coming_number, unless}
+use Rattle.ct_problem.specs.Number.{coming_number, fault_if}
 use Rattle.ct_problem.specs.Number as digits
 use Rattle.ct_problem.specs.ProblemLines.{used, listed_or_used, generators, high_number, range, range_line}
 use Rattle.ct_problem.specs.ReadProblem.{head, body}
@@ -70,8 +70,8 @@ High limit low n ls = (low ≤ n) × number limit n ls
 
 Spells-high : (limit low : ℕ) → Spells (high_number limit low) (High limit low)
 unfolding high_number High
-Spells-high limit low = Spells-coming (High limit low) (λ n. unless (nat_lt limit n) OutOfRange >> (unless (nat_lt n low) EmptyRange >> (skip >> pure n))) (λ n i j x c e.
-    let t = test_failed (nat_lt limit n) OutOfRange (unless (nat_lt n low) EmptyRange >> (skip >> pure n)) i j x e in
+Spells-high limit low = Spells-coming (High limit low) (λ n. fault_if (nat_lt limit n) OutOfRange >> (fault_if (nat_lt n low) EmptyRange >> (skip >> pure n))) (λ n i j x c e.
+    let t = test_failed (nat_lt limit n) OutOfRange (fault_if (nat_lt n low) EmptyRange >> (skip >> pure n)) i j x e in
     let u = test_failed (nat_lt n low) EmptyRange (skip >> pure n) i j x t.1 in
     let s = Coming-taken i n limit c (ltb-false limit n t.0) in
     moved (High limit low) i n x (next i) j u.1 (record { used = s.used; parts = s.parts; spells = (ltb-false n low u.0, s.spells); follows = s.follows }))

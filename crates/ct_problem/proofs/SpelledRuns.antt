@@ -9,7 +9,7 @@ use Rattle.ct_token.specs.declared.token.Token.{Token}
 use Rattle.ct_problem.specs.declared.fault.BadKind.{BadKind}
 use Rattle.ct_problem.specs.Input.{Input, Outcome, Parser, ◌>>=◌, ◌>>◌, and_then, pure, look, fault, fresh_line, line_end}
 use Rattle.ct_problem.specs.Lexemes.{Lexeme, LineEnd, Texts, nothing, one, ◌▸◌}
-use Rattle.ct_problem.specs.Number.{unless}
+use Rattle.ct_problem.specs.Number.{fault_if}
 use Rattle.ct_problem.proofs.Following.{Follows, Follows-same, Follows-then}
 use Rattle.ct_problem.proofs.JoinedTexts.{joined, nothing_joined}
 use Rattle.ct_problem.proofs.LexemeSteps.{shown}
@@ -71,9 +71,9 @@ module _ {A : Type 0} (D : Texts) (L : A → Texts) where
         spelled = λ before d left. let s = g.spelled [] refl left in record { used = s.used; parts = s.parts; spells = h x (before ++ s.used) (joined before s.used d s.spells); follows = s.follows };
       }
 
-  pub Goes-unless : (b : Bool) (kind : BadKind) (p : Parser A) → (b ≡ false → Goes D p L) → Goes D (unless b kind >> p) L
-  Goes-unless true kind p rest i j x e = cc
-  Goes-unless false kind p rest i j x e = rest refl i j x e
+  pub Goes-fault_if : (b : Bool) (kind : BadKind) (p : Parser A) → (b ≡ false → Goes D p L) → Goes D (fault_if b kind >> p) L
+  Goes-fault_if true kind p rest i j x e = cc
+  Goes-fault_if false kind p rest i j x e = rest refl i j x e
 
   -- a rule that looks at the cursor first
   pub Goes-seen : {Y : Type 0} (g : Input → Y) (f : Y → Parser A) → ((y : Y) → Goes D (f y) L) → Goes D (λ i. f (g i) i) L

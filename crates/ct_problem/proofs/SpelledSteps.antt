@@ -12,7 +12,7 @@ use Rattle.ct_problem.specs.declared.fault.BadKind.TheVariants.{NumberTooLarge}
 use Rattle.ct_problem.specs.Input.{Input, Outcome, Parser, ◌>>=◌, ◌>>◌, and_then, pure, syntax, skip, next, line_end, line_end_by, fresh_line, fresh_by, has_line_end, dots, dots_by, spelling}
 use Rattle.ct_problem.specs.Input as input
 use Rattle.ct_problem.specs.Number as digits
-use Rattle.ct_problem.specs.Number.{unless, coming_number}
+use Rattle.ct_problem.specs.Number.{fault_if, coming_number}
 use Rattle.ct_problem.specs.Lexemes.{Number, Dots, LineEnd, Texts, one, number, decimal}
 use Rattle.ct_problem.proofs.LexemeSteps.{shown, after_first, shown-symbol, value_of-decimal}
 use Rattle.ct_problem.proofs.Spelling.{Spelled, Spells, Spelled-as, moved, taken}
@@ -124,14 +124,14 @@ first_read {A} p f i j y e = by (p i) refl e
     by (Ok r) read e = record { value = r.0; left = r.1; first = read; second = e }
 
 -- a test that failed
-pub test_failed : {A : Type 0} (b : Bool) (kind : BadKind) (p : Parser A) (i j : Input) (x : A) → (unless b kind >> p) i ≡ Ok (x, j) → (b ≡ false) × (p i ≡ Ok (x, j))
+pub test_failed : {A : Type 0} (b : Bool) (kind : BadKind) (p : Parser A) (i j : Input) (x : A) → (fault_if b kind >> p) i ≡ Ok (x, j) → (b ≡ false) × (p i ≡ Ok (x, j))
 test_failed true kind p i j x e = cc
 test_failed false kind p i j x e = (refl, e)
 
 coming-gives : (i k : Input) (n : ℕ) → coming_number i ≡ Ok (n, k) → (i ≡ k) × Coming i n
 unfolding coming_number
 coming-gives i k n e =
-    let r = first_read digits.digits (λ m. unless (nat_lt largest_norm m) NumberTooLarge >> pure m) i k n e in
+    let r = first_read digits.digits (λ m. fault_if (nat_lt largest_norm m) NumberTooLarge >> pure m) i k n e in
     let d = digits-gives i r.left r.value r.first in
     let t = test_failed (nat_lt largest_norm r.value) NumberTooLarge (pure r.value) r.left k n r.second in
     let pairs : ◌≡◌ {A = ℕ × Input} (r.value, r.left) (n, k) = cc (t.1) in
@@ -147,7 +147,7 @@ Spells-coming L f rest i j x e =
 
 pub Spells-number : (limit : ℕ) (kind : BadKind) → Spells (digits.number limit kind) (number limit)
 unfolding digits.number
-Spells-number limit kind = Spells-coming (number limit) (λ n. unless (nat_lt limit n) kind >> (skip >> pure n)) (λ n i j x c e.
+Spells-number limit kind = Spells-coming (number limit) (λ n. fault_if (nat_lt limit n) kind >> (skip >> pure n)) (λ n i j x c e.
     let t = test_failed (nat_lt limit n) kind (skip >> pure n) i j x e in
     moved (number limit) i n x (next i) j t.1 (Coming-taken i n limit c (ltb-false limit n t.0)))
 

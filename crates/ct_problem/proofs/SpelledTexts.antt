@@ -13,7 +13,8 @@ use Rattle.ct_problem.specs.GrammarProblem.{AreFew, Says, StandsFor, IsEnd, MayF
 use Rattle.ct_problem.specs.GrammarProblem as grammar
 use Rattle.ct_problem.specs.LetLines.{Definition}
 use Rattle.ct_problem.specs.Lexemes.{Word, nothing, one, ◌▸◌, lexemes}
-use Rattle.ct_problem.specs.ReadProblem.{Reading, head, body, last_line, problem, problem_of, value_of, input_of_scan, most_bytes, too_long, reading_of, Gives}
+use Rattle.ct_problem.specs.Limits.{most_bytes}
+use Rattle.ct_problem.specs.ReadProblem.{Reading, head, body, last_line, problem, problem_of, value_of, input_of_scan, too_long, reading_of, Gives}
 use Rattle.ct_problem.proofs.AlgebraNames.{summed_count}
 use Rattle.ct_problem.proofs.Following.{lexemes-append, used-taken}
 use Rattle.ct_problem.proofs.JoinedTexts.{joined}

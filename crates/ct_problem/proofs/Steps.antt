@@ -9,7 +9,7 @@ use Rattle.ct_problem.specs.declared.fault.BadKind.{BadKind}
 use Rattle.ct_problem.specs.declared.fault.BadKind.TheVariants.{Syntax, BadByte, NumberTooLarge}
 use Rattle.ct_problem.specs.Cursor.{IsCursor}
 use Rattle.ct_problem.specs.Input.{Input, Outcome, Parser, ◌>>=◌, ◌>>◌, and_then, pure, look, fault, fault_at, syntax, skip, next, past, symbol, sees, eat, expect, sees_word, eat_word, expect_word, required, has_line_end, fresh_line, fresh_by, line_end, line_end_by, dots, dots_by, spelling}
-use Rattle.ct_problem.specs.Number.{unless, digits, digits_by, coming_number, number, exactly, value_of}
+use Rattle.ct_problem.specs.Number.{fault_if, digits, digits_by, coming_number, number, exactly, value_of}
 use Rattle.ct_problem.proofs.Cursors.{IsCursor-tail}
 
 -- the tokens that are left are tokens of the text
@@ -60,9 +60,9 @@ module _ {A : Type 0} (P : A → Type 0) where
   Makes-seen g f each i j x at e = each (g i) i j x at e
 
   -- where a test has to fail
-  pub Makes-unless : (b : Bool) (kind : BadKind) (p : Parser A) → (b ≡ false → Makes p P) → Makes (unless b kind >> p) P
-  Makes-unless true kind p rest i j x at e = cc
-  Makes-unless false kind p rest i j x at e = rest refl i j x at e
+  pub Makes-fault_if : (b : Bool) (kind : BadKind) (p : Parser A) → (b ≡ false → Makes p P) → Makes (fault_if b kind >> p) P
+  Makes-fault_if true kind p rest i j x at e = cc
+  Makes-fault_if false kind p rest i j x at e = rest refl i j x at e
 
   pub Makes-weaker : (Q : A → Type 0) (p : Parser A) → ((x : A) → P x → Q x) → Makes p P → Makes p Q
   Makes-weaker Q p weaker made i j x at e = let m = made i j x at e in record { at = m.at; holds = weaker x m.holds }
@@ -157,14 +157,14 @@ Makes-digits = Makes-seen Anything symbol digits_by digits_of
 pub Makes-coming_number : Makes coming_number (λ n. n ≤ largest_norm)
 unfolding coming_number
 Makes-coming_number =
-    Makes-bind Anything (λ n. n ≤ largest_norm) digits (λ n. unless (nat_lt largest_norm n) NumberTooLarge >> pure n) Makes-digits
-    (λ n _. Makes-unless (λ m. m ≤ largest_norm) (nat_lt largest_norm n) NumberTooLarge (pure n) (λ within. Makes-pure (λ m. m ≤ largest_norm) n (ltb-false _ _ within)))
+    Makes-bind Anything (λ n. n ≤ largest_norm) digits (λ n. fault_if (nat_lt largest_norm n) NumberTooLarge >> pure n) Makes-digits
+    (λ n _. Makes-fault_if (λ m. m ≤ largest_norm) (nat_lt largest_norm n) NumberTooLarge (pure n) (λ within. Makes-pure (λ m. m ≤ largest_norm) n (ltb-false _ _ within)))
 
 pub Makes-number : (limit : ℕ) (kind : BadKind) → Makes (number limit kind) (λ n. n ≤ limit)
 unfolding number
 Makes-number limit kind =
-    Makes-bind (λ n. n ≤ largest_norm) (λ n. n ≤ limit) coming_number (λ n. unless (nat_lt limit n) kind >> (skip >> pure n)) Makes-coming_number
-    (λ n _. Makes-unless (λ m. m ≤ limit) (nat_lt limit n) kind (skip >> pure n)
+    Makes-bind (λ n. n ≤ largest_norm) (λ n. n ≤ limit) coming_number (λ n. fault_if (nat_lt limit n) kind >> (skip >> pure n)) Makes-coming_number
+    (λ n _. Makes-fault_if (λ m. m ≤ limit) (nat_lt limit n) kind (skip >> pure n)
     (λ within. Makes-then (λ m. m ≤ limit) skip (pure n) Makes-skip (Makes-pure (λ m. m ≤ limit) n (ltb-false _ _ within))))
 
 pub Makes-exactly : (n : ℕ) → Makes (exactly n) Anything

@@ -13,7 +13,7 @@ use Rattle.ct_problem.specs.declared.reading.names.Known.TheVariants.{Variable}
 use Rattle.ct_problem.specs.Input.{Input, Parser, ◌>>=◌, ◌>>◌, pure, fault, skip, next, eat, expect, sees_word, spelling}
 use Rattle.ct_problem.specs.Input as input
 use Rattle.ct_problem.specs.Names.{Names, known}
-use Rattle.ct_problem.specs.Number.{unless}
+use Rattle.ct_problem.specs.Number.{fault_if}
 use Rattle.ct_problem.specs.Expressions.{name_by, name, acting_by, acting_word, acting, symbol_by, letter, word_by, word, whole, divisor, constant, atom_by, atom}
 use Rattle.ct_problem.specs.Lexemes.{Lexeme, Word, Number, Sign, Texts, nothing, one, number, ◌▸◌}
 use Rattle.ct_problem.specs.Grammar.{IsVariable, IsActing, IsAtom}
@@ -23,7 +23,7 @@ use Rattle.ct_problem.proofs.LexemeStarts.{AfterAtom}
 use Rattle.ct_problem.proofs.LexemeSteps.{shown, shows_word, sees_word-shown}
 use Rattle.ct_problem.proofs.Following.{Follows-next}
 use Rattle.ct_problem.proofs.ShownSymbols.{shows_a_word, shows_a_number, shows_a_sign, spelling-shown, next-shown, unequal_words}
-use Rattle.ct_problem.proofs.Taking.{Taken, Takes, anywhere, Takes-as, Takes-to_right, Takes-then, Takes-next, Takes-last, Takes-skip, Takes-eat, Takes-no_sign, Takes-expect, Takes-unless}
+use Rattle.ct_problem.proofs.Taking.{Taken, Takes, anywhere, Takes-as, Takes-to_right, Takes-then, Takes-next, Takes-last, Takes-skip, Takes-eat, Takes-no_sign, Takes-expect, Takes-fault_if}
 use Rattle.ct_problem.proofs.TakenSteps.{Takes-coming}
 
 -- the name that the next word names
@@ -42,8 +42,8 @@ module _ (bad : Option ℕ) where
   unfolding divisor
   Takes-divisor d some i used rest here e u after =
       let no_zero : d == 0 ≡ false = first_of (search (rules, tests), grind (arith, tests)) in
-      Takes-coming bad d d anywhere (λ m. unless (m == 0) ZeroDenominator >> (skip >> pure m)) u.0
-      (Takes-unless bad d (one (Number d)) anywhere (d == 0) ZeroDenominator (skip >> pure d) no_zero (Takes-last bad tt d (one (Number d)) anywhere skip (λ _. pure d) (Takes-skip bad (Number d)) (λ k. refl)))
+      Takes-coming bad d d anywhere (λ m. fault_if (m == 0) ZeroDenominator >> (skip >> pure m)) u.0
+      (Takes-fault_if bad d (one (Number d)) anywhere (d == 0) ZeroDenominator (skip >> pure d) no_zero (Takes-last bad tt d (one (Number d)) anywhere skip (λ _. pure d) (Takes-skip bad (Number d)) (λ k. refl)))
       i used rest here e u.1 tt
 
   abbrev ratio_by : ℕ → Bool → Parser Expr

@@ -10,7 +10,7 @@ use Rattle.ct_problem.specs.declared.fault.BadKind.TheVariants.{Missing}
 use Rattle.ct_problem.specs.Input.{Input, Parser, ◌>>=◌, ◌>>◌, and_then, pure, skip, syntax, fresh_line, has_line_end, sees_word}
 use Rattle.ct_problem.specs.GrammarProblem.{IsEnd, MayFollow}
 use Rattle.ct_problem.specs.Lexemes.{Lexeme, Word, LineEnd, lexeme_of, lexemes}
-use Rattle.ct_problem.specs.Number.{unless}
+use Rattle.ct_problem.specs.Number.{fault_if}
 use Rattle.ct_problem.specs.ReadProblem.{Reading, lacks, has_needs, ending, ending_by, nothing_left, behind_end, last_line}
 use Rattle.ct_problem.proofs.LexemeSteps.{shows_word, sees_word-shown}
 use Rattle.ct_problem.proofs.ShownSymbols.{same_word}
@@ -80,7 +80,7 @@ not_true b h = ap not h
 
 module _ (command : Command) (p : Reading) (text : List ℕ) (left : List Token) (bad : Option ℕ) (place : ℕ) where
   abbrev last_by : Bool → Bool → Parser ℕ
-  last_by is_end lacking = cond is_end (unless lacking Missing) syntax >> (skip >> (ending >>= after_end command text bad place))
+  last_by is_end lacking = cond is_end (fault_if lacking Missing) syntax >> (skip >> (ending >>= after_end command text bad place))
 
   pub end_taken : Last command p text left bad place → Read (last_line command p) (record { text = text; left = left; bad = bad }) place
   unfolding last_line lacks at

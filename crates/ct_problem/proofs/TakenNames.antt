@@ -15,7 +15,7 @@ use Rattle.ct_problem.specs.declared.reading.declarations.NameLine.TheVariants.{
 use Rattle.ct_problem.specs.Input.{Input, Outcome, Parser, ◌>>=◌, ◌>>◌, and_then, pure, peek, skip, eat_word, expect_word, line_end, sees_word}
 use Rattle.ct_problem.specs.Declarations.{name_line, spelled_word, new_name, free_action, action_of_line, role_of_line, is_full, acts_fully, sums_fully, declared, declaration, declarations_by, full_by, declarations_from, some_names, declarations}
 use Rattle.ct_problem.specs.Names.{Names, is_new, summed_texts}
-use Rattle.ct_problem.specs.Number.{unless}
+use Rattle.ct_problem.specs.Number.{fault_if}
 use Rattle.ct_problem.specs.Lexemes.{Lexeme, Word, LineEnd, Texts, one, ◌▸◌}
 use Rattle.ct_problem.specs.GrammarLets as lets
 use Rattle.ct_problem.specs.GrammarLets.{IsDeclarable}
@@ -27,7 +27,7 @@ use Rattle.ct_problem.proofs.JoinedTexts.{joined_to_right}
 use Rattle.ct_problem.proofs.LexemeSteps.{shown, shows_word, sees_word-shown}
 use Rattle.ct_problem.proofs.LineStarts.{rank_of, AfterLines, other_word, fresh_before}
 use Rattle.ct_problem.proofs.ShownSymbols.{shows_a_word, spelling-shown}
-use Rattle.ct_problem.proofs.Taking.{Taken, Taken-bind, Takes, anywhere, Takes-to_right, Takes-then, Takes-next, Takes-last, Takes-unless, Takes-skip, Takes-eat_word, Takes-no_word, Takes-expect_word, headed}
+use Rattle.ct_problem.proofs.Taking.{Taken, Taken-bind, Takes, anywhere, Takes-to_right, Takes-then, Takes-next, Takes-last, Takes-fault_if, Takes-skip, Takes-eat_word, Takes-no_word, Takes-expect_word, headed}
 use Rattle.ct_problem.proofs.TakenSteps.{IsFresh, Takes-line_end}
 
 -- ---- which line begins
@@ -101,13 +101,13 @@ module _ (bad : Option ℕ) where
   unfolding new_name
   Takes-new_name names text i used rest here e u after =
       let head = headed bad i used rest (Word text) e u.1 in
-      let t = Takes-unless bad text (one (Word text)) anywhere (nat_lt 32 (length text)) NameTooLong (old_by text) (below_is 32 (length text) u.0.short)
-      (Takes-unless bad text (one (Word text)) anywhere (not (is_new text names)) DuplicateName (skip >> pure text) (ap not u.0.other)
+      let t = Takes-fault_if bad text (one (Word text)) anywhere (nat_lt 32 (length text)) NameTooLong (old_by text) (below_is 32 (length text) u.0.short)
+      (Takes-fault_if bad text (one (Word text)) anywhere (not (is_new text names)) DuplicateName (skip >> pure text) (ap not u.0.other)
       (Takes-last bad tt text (one (Word text)) anywhere skip (λ _. pure text) (Takes-skip bad (Word text)) (λ k. refl))) i used rest here e u.1 tt in
-      record { left = t.left; reads = ap (λ o. and_then o (λ v. unless (nat_lt 32 (length v)) NameTooLong >> old_by v)) (name_read i rest text head) ∙ t.reads; shows = t.shows; follows = t.follows }
+      record { left = t.left; reads = ap (λ o. and_then o (λ v. fault_if (nat_lt 32 (length v)) NameTooLong >> old_by v)) (name_read i rest text head) ∙ t.reads; shows = t.shows; follows = t.follows }
     where
       old_by : List ℕ → Parser (List ℕ)
-      old_by v = unless (not (is_new v names)) DuplicateName >> (skip >> pure v)
+      old_by v = fault_if (not (is_new v names)) DuplicateName >> (skip >> pure v)
 
   -- ---- the words behind it
 
@@ -142,7 +142,7 @@ module _ (bad : Option ℕ) where
         → Takes bad (declaration line found) n (one (Word word) ▸ (lets.declared (declared found) text ▸ M)) (IsFresh bad)
     unfolding declaration
     line_taken line word n M room takes =
-        Takes-unless bad n (one (Word word) ▸ (lets.declared (declared found) text ▸ M)) (IsFresh bad) (is_full line found) TooMany (skip >> (new_name (declared found) >>= after_text line)) room
+        Takes-fault_if bad n (one (Word word) ▸ (lets.declared (declared found) text ▸ M)) (IsFresh bad) (is_full line found) TooMany (skip >> (new_name (declared found) >>= after_text line)) room
         (Takes-next bad tt n (one (Word word)) (lets.declared (declared found) text ▸ M) (IsFresh bad) skip _ (Takes-skip bad (Word word))
         (Takes-then bad text n (lets.declared (declared found) text) M (IsFresh bad) (new_name (declared found)) (after_text line) (Takes-new_name (declared found) text) takes))
 

@@ -7,13 +7,13 @@ use Rattle.ct_problem.specs.Input.{Parser, ◌>>=◌, ◌>>◌, pure, skip, eat_
 use Rattle.ct_problem.specs.GrammarProblem as grammar
 use Rattle.ct_problem.specs.Lexemes.{Lexeme, Word, Number, Dots, LineEnd, nothing, one, number, ◌▸◌}
 use Rattle.ct_problem.specs.Lines.{no_more}
-use Rattle.ct_problem.specs.Number.{coming_number, unless}
+use Rattle.ct_problem.specs.Number.{coming_number, fault_if}
 use Rattle.ct_problem.specs.Number as digits
 use Rattle.ct_problem.specs.ProblemLines.{high_number, range, range_line}
 use Rattle.ct_problem.proofs.JoinedTexts.{joined_to_right, to_nothing}
 use Rattle.ct_problem.proofs.LexemeSteps.{shows_word}
 use Rattle.ct_problem.proofs.LineStarts.{Key, word_of, rank_of, rank, AfterLines, Leads, other_word, leads_nothing, leads_key}
-use Rattle.ct_problem.proofs.Taking.{Takes, anywhere, Takes-as, Takes-bind, Takes-then, Takes-next, Takes-last, Takes-unless, Takes-skip, Takes-eat_word, Takes-no_word}
+use Rattle.ct_problem.proofs.Taking.{Takes, anywhere, Takes-as, Takes-bind, Takes-then, Takes-next, Takes-last, Takes-fault_if, Takes-skip, Takes-eat_word, Takes-no_word}
 use Rattle.ct_problem.proofs.TakenSteps.{IsFresh, Takes-line_end, Takes-dots, Takes-number, Takes-coming}
 use Rattle.ct_problem.proofs.TakenValues.{Takes-past}
 
@@ -24,9 +24,9 @@ module _ (bad : Option ℕ) where
   Takes-high : (limit low n : ℕ) → limit ≤ largest_norm → low ≤ n → n ≤ limit → Takes bad (high_number limit low) n (one (Number n)) anywhere
   unfolding high_number
   Takes-high limit low n most rising within =
-      Takes-coming bad n n anywhere (λ m. unless (nat_lt limit m) OutOfRange >> (unless (nat_lt m low) EmptyRange >> (skip >> pure m))) (omega (arith, most, within))
-      (Takes-unless bad n (one (Number n)) anywhere (nat_lt limit n) OutOfRange (unless (nat_lt n low) EmptyRange >> (skip >> pure n)) (below_is limit n within)
-      (Takes-unless bad n (one (Number n)) anywhere (nat_lt n low) EmptyRange (skip >> pure n) (below_is n low rising)
+      Takes-coming bad n n anywhere (λ m. fault_if (nat_lt limit m) OutOfRange >> (fault_if (nat_lt m low) EmptyRange >> (skip >> pure m))) (omega (arith, most, within))
+      (Takes-fault_if bad n (one (Number n)) anywhere (nat_lt limit n) OutOfRange (fault_if (nat_lt n low) EmptyRange >> (skip >> pure n)) (below_is limit n within)
+      (Takes-fault_if bad n (one (Number n)) anywhere (nat_lt n low) EmptyRange (skip >> pure n) (below_is n low rising)
       (Takes-last bad tt n (one (Number n)) anywhere skip (λ _. pure n) (Takes-skip bad (Number n)) (λ k. refl))))
 
   Takes-range : (limit : ℕ) (r : Range) → limit ≤ largest_norm → Takes bad (range limit) r (grammar.range limit r) anywhere

@@ -13,7 +13,8 @@ use Rattle.ct_problem.specs.GrammarProblem.{StandsFor, StandsForNone, IsEnd}
 use Rattle.ct_problem.specs.Input.{Input, Outcome, Parser, ◌>>=◌, and_then, pure}
 use Rattle.ct_problem.specs.LetLines.{Definition}
 use Rattle.ct_problem.specs.Lexemes.{Lexeme, Word, LineEnd, lexemes}
-use Rattle.ct_problem.specs.ReadProblem.{Reading, head, body, last_line, problem, problem_of, value_of, input_of_scan, most_bytes, too_long, Gives}
+use Rattle.ct_problem.specs.Limits.{most_bytes}
+use Rattle.ct_problem.specs.ReadProblem.{Reading, head, body, last_line, problem, problem_of, value_of, input_of_scan, too_long, Gives}
 use Rattle.ct_problem.proofs.Following.{lexemes-append}
 use Rattle.ct_problem.proofs.LexemeStarts.{length-shown}
 use Rattle.ct_problem.proofs.LexemeSteps.{shown}

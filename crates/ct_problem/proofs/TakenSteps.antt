@@ -12,12 +12,12 @@ use Rattle.ct_problem.specs.declared.fault.BadKind.{BadKind}
 use Rattle.ct_problem.specs.declared.fault.BadKind.TheVariants.{NumberTooLarge}
 use Rattle.ct_problem.specs.Input.{Input, Outcome, Parser, ◌>>=◌, ◌>>◌, and_then, pure, syntax, skip, next, has_line_end, fresh_line, fresh_by, line_end, line_end_by, dots, dots_by, spelling}
 use Rattle.ct_problem.specs.Number as digits
-use Rattle.ct_problem.specs.Number.{unless, coming_number}
+use Rattle.ct_problem.specs.Number.{fault_if, coming_number}
 use Rattle.ct_problem.specs.Lexemes.{Lexeme, Word, Number, Sign, Dots, LineEnd, Texts, nothing, one, number, lexeme_of, lexemes}
 use Rattle.ct_problem.proofs.LexemeSteps.{shown, value_of-small}
 use Rattle.ct_problem.proofs.Following.{Follows-same, Follows-then, Follows-next}
 use Rattle.ct_problem.proofs.ShownSymbols.{shows_a_number, shows_dots, shows_line_end, decimal-shown, next-shown, same_number}
-use Rattle.ct_problem.proofs.Taking.{Takes, anywhere, headed, Takes-last, Takes-skip, Takes-unless}
+use Rattle.ct_problem.proofs.Taking.{Takes, anywhere, headed, Takes-last, Takes-skip, Takes-fault_if}
 
 -- ---- lines
 
@@ -101,7 +101,7 @@ module _ (bad : Option ℕ) where
   unfolding coming_number
   coming_read i n rest head low =
       let within : nat_lt largest_norm n ≡ false = first_of (search (rules, tests), grind (arith, tests)) in
-      ap (λ o. and_then o (λ m. unless (nat_lt largest_norm m) NumberTooLarge >> pure m)) (digits_read i n rest head low) ∙ ap (λ (b : Bool). (unless b NumberTooLarge >> pure n) i) within
+      ap (λ o. and_then o (λ m. fault_if (nat_lt largest_norm m) NumberTooLarge >> pure m)) (digits_read i n rest head low) ∙ ap (λ (b : Bool). (fault_if b NumberTooLarge >> pure n) i) within
 
   -- what is done with the number that comes next
   pub Takes-coming : {A : Type 0} (x : A) (n : ℕ) (F : Texts) (f : ℕ → Parser A) → n ≤ largest_norm → Takes bad (f n) x (one (Number n)) F → Takes bad (coming_number >>= f) x (one (Number n)) F
@@ -114,8 +114,8 @@ module _ (bad : Option ℕ) where
   Takes-number limit n kind low i used rest here e u after =
       let small = u.0 in
       let within : nat_lt limit n ≡ false = first_of (search (rules, tests), grind (arith, tests)) in
-      Takes-coming n n anywhere (λ m. unless (nat_lt limit m) kind >> (skip >> pure m)) (omega (arith, small, low))
-      (Takes-unless bad n (one (Number n)) anywhere (nat_lt limit n) kind (skip >> pure n) within (Takes-last bad tt n (one (Number n)) anywhere skip (λ _. pure n) (Takes-skip bad (Number n)) (λ k. refl)))
+      Takes-coming n n anywhere (λ m. fault_if (nat_lt limit m) kind >> (skip >> pure m)) (omega (arith, small, low))
+      (Takes-fault_if bad n (one (Number n)) anywhere (nat_lt limit n) kind (skip >> pure n) within (Takes-last bad tt n (one (Number n)) anywhere skip (λ _. pure n) (Takes-skip bad (Number n)) (λ k. refl)))
       i used rest here e u.1 tt
 
   pub Takes-exactly : (n : ℕ) → n ≤ largest_norm → Takes bad (digits.exactly n) tt (one (Number n)) anywhere

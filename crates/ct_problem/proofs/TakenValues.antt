@@ -6,7 +6,7 @@ use Rattle.ct_problem.specs.declared.fault.BadKind.TheVariants.{TooMany}
 use Rattle.ct_problem.specs.Input.{Parser, ◌>>=◌, ◌>>◌, pure, sees_word, eat_word}
 use Rattle.ct_problem.specs.Lines as read
 use Rattle.ct_problem.specs.Names.{Names}
-use Rattle.ct_problem.specs.Number.{unless}
+use Rattle.ct_problem.specs.Number.{fault_if}
 use Rattle.ct_problem.specs.Lexemes.{Word, Texts, nothing, one, ◌▸◌, each}
 use Rattle.ct_problem.specs.GrammarProblem.{value, keyed}
 use Rattle.ct_problem.proofs.Following.{Follows-same}
@@ -24,7 +24,7 @@ module _ (bad : Option ℕ) where
   Takes-no_more key i used rest here e u after =
       let here_shown : shown i ≡ rest = e ∙ ap (λ ls. ls ++ rest) u in
       let seen : sees_word key i ≡ false = sees_word-shown key i ∙ ap (shows_word key) here_shown ∙ after in
-      record { left = i; reads = ap (λ (b : Bool). unless b TooMany i) seen; shows = here_shown; follows = Follows-same i }
+      record { left = i; reads = ap (λ (b : Bool). fault_if b TooMany i) seen; shows = here_shown; follows = Follows-same i }
 
   -- what is left to read behind such a test
   pub Takes-past : {A : Type 0} (key : List ℕ) (r : ℕ) (x : A) → rank_of key < r → Takes bad (read.no_more key >> pure x) x nothing (AfterLines bad r)

@@ -6,7 +6,7 @@ use Rattle.std.proofs.Common.{◌≡◌, ℕ, Bool, true, false, List, ◌∷◌
 use Rattle.std.proofs.lemmas.List.{append_assoc}
 use Rattle.ct_problem.specs.declared.fault.BadKind.{BadKind}
 use Rattle.ct_problem.specs.Input.{Input, Parser, ◌>>=◌, ◌>>◌, and_then, pure, skip, next, past, sees, eat, expect, sees_word, eat_word, expect_word, required}
-use Rattle.ct_problem.specs.Number.{unless}
+use Rattle.ct_problem.specs.Number.{fault_if}
 use Rattle.ct_problem.specs.Lexemes.{Lexeme, Word, Sign, Texts, nothing, one, ◌▸◌}
 use Rattle.ct_problem.proofs.LexemeSteps.{shown, shows_sign, shows_word, sees-shown, sees_word-shown}
 use Rattle.ct_problem.proofs.JoinedTexts.{joined_to_right}
@@ -110,7 +110,7 @@ module _ (bad : Option ℕ) where
   Takes-expect_word w = Takes-last true tt (one (Word w)) anywhere (eat_word w) required (Takes-eat_word w) (λ i. refl)
 
   -- where a test fails
-  pub Takes-unless : {A : Type 0} (x : A) (L F : Texts) (b : Bool) (kind : BadKind) (p : Parser A) → b ≡ false → Takes bad p x L F → Takes bad (unless b kind >> p) x L F
-  Takes-unless x L F b kind p passed t i used rest here e u after =
+  pub Takes-fault_if : {A : Type 0} (x : A) (L F : Texts) (b : Bool) (kind : BadKind) (p : Parser A) → b ≡ false → Takes bad p x L F → Takes bad (fault_if b kind >> p) x L F
+  Takes-fault_if x L F b kind p passed t i used rest here e u after =
       let r = t i used rest here e u after in
-      record { left = r.left; reads = ap (λ (c : Bool). (unless c kind >> p) i) passed ∙ r.reads; shows = r.shows; follows = r.follows }
+      record { left = r.left; reads = ap (λ (c : Bool). (fault_if c kind >> p) i) passed ∙ r.reads; shows = r.shows; follows = r.follows }

@@ -1,9 +1,10 @@
 -- What is read as a line with an expression, or as several, is well formed.
 use Rattle.std.proofs.Common.{◌≡◌, ℕ, zero, suc, ◌+◌, ◌≤◌, Bool, true, false, cond, List, [], ◌∷◌, ◌++◌, length, refl, ◌∙◌, arith, length-append, codes}
+use Rattle.ct_ore.specs.Naming.{Naming}
 use Rattle.ct_expr.specs.declared.expr.Expr.{Expr}
 use Rattle.ct_problem.specs.declared.fault.BadKind.TheVariants.{TooMany}
 use Rattle.ct_problem.specs.Input.{◌>>=◌, ◌>>◌, pure, look, eat_word, sees_word, line_end}
-use Rattle.ct_problem.specs.Number.{unless}
+use Rattle.ct_problem.specs.Number.{fault_if}
 use Rattle.ct_problem.specs.Expressions.{expression}
 use Rattle.ct_problem.specs.Lines.{header, no_more, value, part, value_lines, value_lines_from}
 use Rattle.ct_problem.specs.Names.{Names}
@@ -20,9 +21,9 @@ Makes-header kind = Makes-then Anything _ _ (Makes-expect_word (codes "mgfun")) 
 pub Makes-no_more : (key : List ℕ) → Makes (no_more key) Anything
 unfolding no_more
 Makes-no_more key =
-    Makes-bind Anything Anything (look (sees_word key)) (λ more. unless more TooMany) (Makes-look Anything (sees_word key) (λ _ _. tt)) by
+    Makes-bind Anything Anything (look (sees_word key)) (λ more. fault_if more TooMany) (Makes-look Anything (sees_word key) (λ _ _. tt)) by
   where
-    by : (more : Bool) → Unit {0} → Makes (unless more TooMany) Anything
+    by : (more : Bool) → Unit {0} → Makes (fault_if more TooMany) Anything
     by true _ = Makes-fault Anything TooMany
     by false _ = Makes-pure Anything tt tt
 
@@ -40,34 +41,40 @@ pub recounted : {X : Type 0} (P : X → Type 0) (n m : ℕ) (xs : List X) → n 
 recounted P n m xs e known = record { each = known.each; counted = known.counted ∙ e }
 
 -- generators, of which so many more may come
-pub record MayGrow (left : ℕ) (xs : List Expr) : Type 0 where
-  pub each : Each IsOperator xs
+pub record MayGrow (ns : List Naming) (left : ℕ) (xs : List Expr) : Type 0 where
+  pub each : Each (IsOperator ns) xs
   pub few : length xs + left ≤ 16
 
-pub none_yet : MayGrow 16 []
-none_yet = record { each = tt; few = omega arith }
+module _ (ns : List Naming) where
+  pub none_yet : MayGrow ns 16 []
+  none_yet = record { each = tt; few = omega arith }
 
-pub one_generator_more : (n : ℕ) (xs : List Expr) (x : Expr) → MayGrow (suc n) xs → IsOperator x → MayGrow n (xs ++ x ∷ [])
-one_generator_more n xs x known h = let few = known.few in record { each = Each-more IsOperator xs x known.each h; few = omega (arith, length-append xs (x ∷ []), few) }
+  pub one_generator_more : (n : ℕ) (xs : List Expr) (x : Expr) → MayGrow ns (suc n) xs → IsOperator ns x → MayGrow ns n (xs ++ x ∷ [])
+  one_generator_more n xs x known h =
+      let few = known.few in
+      record { each = Each-more (IsOperator ns) xs x known.each h; few = omega (arith, length-append xs (x ∷ []), few) }
 
-pub generators_are : (n : ℕ) (xs : List Expr) → MayGrow n xs → AreGenerators xs
-generators_are n xs known = let few = known.few in record { few = omega (arith, few); each = known.each }
+  pub generators_are : (n : ℕ) (xs : List Expr) → MayGrow ns n xs → AreGenerators ns xs
+  generators_are n xs known = let few = known.few in record { few = omega (arith, few); each = known.each }
+
+  pub operator_is : (x : Expr) → IsFor ns true x → IsOperator ns x
+  operator_is x h = record { evaluable = h.evaluable; over = h.over }
+
+  pub polynomial_is : (x : Expr) → IsFor ns false x → IsPolynomial ns x
+  polynomial_is x h = record { evaluable = h.evaluable; over = h.over; plain = h.plain refl }
 
 module _ (names : Names) (few : length names.variables ≤ 6) where
-  Makes-value : (operators : Bool) → Makes (value names operators) (IsFor operators)
+  Makes-value : (operators : Bool) → Makes (value names operators) (IsFor names.variables operators)
   unfolding value
   Makes-value operators =
-      Makes-bind (IsFor operators) (IsFor operators) (expression names operators) (λ x. line_end >> pure x) (Makes-expression names few operators)
-      (λ x h. Makes-then (IsFor operators) _ _ Makes-line_end (Makes-pure (IsFor operators) x h))
+      Makes-bind (IsFor names.variables operators) (IsFor names.variables operators) (expression names operators) (λ x. line_end >> pure x) (Makes-expression names few operators)
+      (λ x h. Makes-then (IsFor names.variables operators) _ _ Makes-line_end (Makes-pure (IsFor names.variables operators) x h))
 
-  pub Makes-operator : Makes (value names true) IsOperator
-  Makes-operator = Makes-weaker (IsFor true) IsOperator (value names true) (λ x h. h.evaluable) (Makes-value true)
+  pub Makes-operator : Makes (value names true) (IsOperator names.variables)
+  Makes-operator = Makes-weaker (IsFor names.variables true) (IsOperator names.variables) (value names true) (operator_is names.variables) (Makes-value true)
 
-  polynomial_is : (x : Expr) → IsFor false x → IsPolynomial x
-  polynomial_is x h = record { evaluable = h.evaluable; plain = h.plain refl }
-
-  pub Makes-polynomial : Makes (value names false) IsPolynomial
-  Makes-polynomial = Makes-weaker (IsFor false) IsPolynomial (value names false) polynomial_is (Makes-value false)
+  pub Makes-polynomial : Makes (value names false) (IsPolynomial names.variables)
+  Makes-polynomial = Makes-weaker (IsFor names.variables false) (IsPolynomial names.variables) (value names false) (polynomial_is names.variables) (Makes-value false)
 
   module _ (P : Expr → Type 0) (operators : Bool) (line : Makes (value names operators) P) where
     pub Makes-part : (key text : List ℕ) → Makes (part names key text operators) P
@@ -79,16 +86,19 @@ module _ (names : Names) (few : length names.variables ≤ 6) where
     Makes-keyed key = Makes-then P _ _ (Makes-expect_word key) line
 
   module _ (key : List ℕ) where
-    Makes-more : (n : ℕ) (found : List Expr) → MayGrow n found → Makes (value_lines_from names key n found) AreGenerators
-    unfolding value_lines_from
-    Makes-more zero found known = Makes-then AreGenerators (no_more key) (pure found) (Makes-no_more key) (Makes-pure AreGenerators found (generators_are 0 found known))
-    Makes-more (suc n) found known =
-        Makes-bind Anything AreGenerators (eat_word key) (λ more. cond more (value names true >>= (λ x. value_lines_from names key n (found ++ x ∷ []))) (pure found)) (Makes-eat_word key) (λ more _.
-        Makes-cond AreGenerators more (value names true >>= (λ x. value_lines_from names key n (found ++ x ∷ []))) (pure found)
-        (λ _. Makes-bind IsOperator AreGenerators (value names true) (λ x. value_lines_from names key n (found ++ x ∷ [])) Makes-operator (λ x h.
-        Makes-more n (found ++ x ∷ []) (one_generator_more n found x known h)))
-        (λ _. Makes-pure AreGenerators found (generators_are (suc n) found known)))
+    abbrev These : List Expr → Type 0
+    These xs = AreGenerators names.variables xs
 
-    pub Makes-value_lines : Makes (value_lines names key) AreGenerators
+    Makes-more : (n : ℕ) (found : List Expr) → MayGrow names.variables n found → Makes (value_lines_from names key n found) These
+    unfolding value_lines_from
+    Makes-more zero found known = Makes-then These (no_more key) (pure found) (Makes-no_more key) (Makes-pure These found (generators_are names.variables 0 found known))
+    Makes-more (suc n) found known =
+        Makes-bind Anything These (eat_word key) (λ more. cond more (value names true >>= (λ x. value_lines_from names key n (found ++ x ∷ []))) (pure found)) (Makes-eat_word key) (λ more _.
+        Makes-cond These more (value names true >>= (λ x. value_lines_from names key n (found ++ x ∷ []))) (pure found)
+        (λ _. Makes-bind (IsOperator names.variables) These (value names true) (λ x. value_lines_from names key n (found ++ x ∷ [])) Makes-operator (λ x h.
+        Makes-more n (found ++ x ∷ []) (one_generator_more names.variables n found x known h)))
+        (λ _. Makes-pure These found (generators_are names.variables (suc n) found known)))
+
+    pub Makes-value_lines : Makes (value_lines names key) (AreGenerators names.variables)
     unfolding value_lines
-    Makes-value_lines = Makes-more 16 [] none_yet
+    Makes-value_lines = Makes-more 16 [] (none_yet names.variables)

@@ -20,11 +20,12 @@ use Rattle.ct_problem.specs.Lines.{no_more, value_lines}
 use Rattle.ct_problem.specs.Names.{Names}
 use Rattle.ct_problem.specs.Number.{coming_number, number}
 use Rattle.ct_problem.specs.ProblemLines.{used, listed_or_used, generators, high_number, range, range_line}
-use Rattle.ct_problem.specs.ReadProblem.{Reading, head, body, last_line, problem, problem_of, value_of, input_of_scan, most_bytes, too_long}
+use Rattle.ct_problem.specs.Limits.{most_bytes}
+use Rattle.ct_problem.specs.ReadProblem.{Reading, head, body, last_line, problem, problem_of, value_of, input_of_scan, too_long}
 use Rattle.ct_problem.specs.WellFormed.{AreGenerators, IsGens, AreForms, AreDens, IsRange}
 use Rattle.ct_problem.proofs.AlgebraNames.{Makes-declarations}
 use Rattle.ct_problem.proofs.Definitions.{length-definitions_of, forms_of}
-use Rattle.ct_problem.proofs.Steps.{IsAt, Makes, Anything, Makes-pure, Makes-cond, Makes-bind, Makes-then, Makes-unless, Makes-skip, Makes-eat_word, Makes-fresh_line, Makes-line_end, Makes-dots, Makes-coming_number, Makes-number}
+use Rattle.ct_problem.proofs.Steps.{IsAt, Makes, Anything, Makes-pure, Makes-cond, Makes-bind, Makes-then, Makes-fault_if, Makes-skip, Makes-eat_word, Makes-fresh_line, Makes-line_end, Makes-dots, Makes-coming_number, Makes-number}
 use Rattle.ct_problem.proofs.WellFormedDens.{Makes-den_lines}
 use Rattle.ct_problem.proofs.WellFormedLets.{AreLets, Makes-list_name, Makes-let_lines}
 use Rattle.ct_problem.proofs.WellFormedLines.{Makes-header, Makes-no_more, Makes-value_lines}
@@ -32,17 +33,16 @@ use Rattle.ct_problem.proofs.WellFormedLines.{Makes-header, Makes-no_more, Makes
 -- ---- generators
 
 module _ (names : Names) where
-  IsThese : Gens → Type 0
-  IsThese g = IsGens (length names.lets) g
+  abbrev IsThese : Gens → Type 0
+  IsThese g = IsGens names.variables (length names.lets) g
 
   Makes-used : Makes (used names) IsThese
-  unfolding used IsThese
+  unfolding used
   Makes-used =
       Makes-bind (λ at. at < length names.lets) IsThese (list_name names) _ (Makes-list_name names) (λ at within.
       Makes-then IsThese _ _ Makes-line_end (Makes-then IsThese _ _ (Makes-no_more (codes "use")) (Makes-pure IsThese (Named at) within)))
 
-  listed_or : (xs : List Expr) → AreGenerators xs → Makes (listed_or_used names xs) IsThese
-  unfolding IsThese
+  listed_or : (xs : List Expr) → AreGenerators names.variables xs → Makes (listed_or_used names xs) IsThese
   listed_or [] known =
       Makes-bind Anything IsThese (eat_word (codes "use")) (λ is_used. cond is_used (used names) (pure (Listed []))) (Makes-eat_word (codes "use")) (λ is_used _.
       Makes-cond IsThese is_used (used names) (pure (Listed [])) (λ _. Makes-used) (λ _. Makes-pure IsThese (Listed []) known))
@@ -50,7 +50,7 @@ module _ (names : Names) where
 
   Makes-generators : length names.variables ≤ 6 → Makes (generators names) IsThese
   unfolding generators
-  Makes-generators few = Makes-bind AreGenerators IsThese (value_lines names (codes "gen")) (listed_or_used names) (Makes-value_lines names few (codes "gen")) listed_or
+  Makes-generators few = Makes-bind (AreGenerators names.variables) IsThese (value_lines names (codes "gen")) (listed_or_used names) (Makes-value_lines names few (codes "gen")) listed_or
 
 -- ---- ranges
 
@@ -63,8 +63,8 @@ Makes-high : (limit low : ℕ) → Makes (high_number limit low) (IsHigh limit l
 unfolding high_number
 Makes-high limit low =
     Makes-bind (λ n. n ≤ _) P coming_number _ Makes-coming_number (λ n _.
-    Makes-unless P (nat_lt limit n) OutOfRange _ (λ within.
-    Makes-unless P (nat_lt n low) EmptyRange (skip >> pure n) (λ rising.
+    Makes-fault_if P (nat_lt limit n) OutOfRange _ (λ within.
+    Makes-fault_if P (nat_lt n low) EmptyRange (skip >> pure n) (λ rising.
     Makes-then P skip (pure n) Makes-skip (Makes-pure P n (record { rising = ltb-false _ _ rising; within = ltb-false _ _ within })))))
   where
     P : ℕ → Type 0
@@ -95,7 +95,7 @@ Makes-range_line key limit =
 -- what is known of the names and the `let` lines
 record IsHead (h : List Naming × List Definition) : Type 0 where
   algebra : IsAlgebra h.0
-  lets : AreLets h.1
+  lets : AreLets h.0 h.1
 
 Makes-head : Makes head IsHead
 unfolding head
@@ -103,31 +103,31 @@ Makes-head =
     Makes-then IsHead _ _ Makes-fresh_line
     (Makes-then IsHead _ _ (Makes-header (codes "problem"))
     (Makes-bind IsAlgebra IsHead declarations _ Makes-declarations (λ variables algebra.
-    Makes-bind AreLets IsHead (let_lines variables) (λ definitions. pure (variables, definitions)) (Makes-let_lines variables algebra.few) (λ definitions lets.
+    Makes-bind (AreLets variables) IsHead (let_lines variables) (λ definitions. pure (variables, definitions)) (Makes-let_lines variables algebra.few) (λ definitions lets.
     Makes-pure IsHead (variables, definitions) (record { algebra = algebra; lets = lets })))))
 
 -- what is known of a reading
 pub record IsReading (p : Reading) : Type 0 where
   pub names : IsAlgebra p.variables
-  pub lets : AreLets p.definitions
-  pub gens : IsGens (length p.definitions) p.generators
+  pub lets : AreLets p.variables p.definitions
+  pub gens : IsGens p.variables (length p.definitions) p.generators
   pub dens : AreDens p.variables p.dens
-  pub targets : AreGenerators p.targets
+  pub targets : AreGenerators p.variables p.targets
   pub orders : IsRange 8 p.orders
   pub degrees : IsRange 12 p.degrees
 
-Makes-body : (variables : List Naming) (definitions : List Definition) → IsAlgebra variables → AreLets definitions → Makes (body variables definitions) IsReading
-unfolding body IsThese
+Makes-body : (variables : List Naming) (definitions : List Definition) → IsAlgebra variables → AreLets variables definitions → Makes (body variables definitions) IsReading
+unfolding body
 Makes-body variables definitions algebra lets =
     Makes-bind (IsThese names) IsReading (generators names) _ (Makes-generators names algebra.few) (λ gens g.
     Makes-bind (λ ds. AreDens variables ds) IsReading (den_lines names) _ (Makes-den_lines names algebra.few) (λ dens d.
-    Makes-bind AreGenerators IsReading (value_lines names (codes "target")) _ (Makes-value_lines names algebra.few (codes "target")) (λ targets t.
+    Makes-bind (AreGenerators variables) IsReading (value_lines names (codes "target")) _ (Makes-value_lines names algebra.few (codes "target")) (λ targets t.
     Makes-bind (IsRange 8) IsReading (range_line (codes "order") 8) _ (Makes-range_line (codes "order") 8) (λ orders o.
     Makes-bind (IsRange 12) IsReading (range_line (codes "degree") 12) (λ degrees. pure (record { variables = variables; definitions = definitions; generators = gens; dens = dens; targets = targets; orders = orders; degrees = degrees })) (Makes-range_line (codes "degree") 12) (λ degrees c.
     Makes-pure IsReading (record { variables = variables; definitions = definitions; generators = gens; dens = dens; targets = targets; orders = orders; degrees = degrees }) (record {
       names = algebra;
       lets = lets;
-      gens = subst (λ (n : ℕ). IsGens n gens) (length-map definitions (λ d. d.text)) g;
+      gens = subst (λ (n : ℕ). IsGens variables n gens) (length-map definitions (λ d. d.text)) g;
       dens = d;
       targets = t;
       orders = o;
@@ -200,8 +200,8 @@ draft_formed i j k names definitions d at read_head read_body each =
       names = known.names;
       few_lets = subst (λ (n : ℕ). n ≤ 8) count known.lets.few;
       a_name_each = each;
-      forms = subst (AreForms 0) forms known.lets.forms;
-      generators = subst (λ (n : ℕ). IsGens n d.gens) count known.gens;
+      forms = subst (AreForms d.names.variables 0) forms known.lets.forms;
+      generators = subst (λ (n : ℕ). IsGens d.names.variables n d.gens) count known.gens;
       denominators = known.dens;
       listed_targets = known.targets;
       order_range = known.orders;

@@ -17,6 +17,7 @@ use Rattle.ct_problem.specs.declared.reading.names.Known.TheVariants.{Variable, 
 use Rattle.ct_problem.specs.declared.reading.names.Names.TheInside as names
 use Rattle.ct_problem.specs.declared.reading.tokens.Tokens.TheInside as tokens
 use Rattle.ct_problem.specs.Input.{Input, symbol}
+use Rattle.ct_problem.specs.Limits.{most_names, most_lets}
 use Rattle.ct_problem.specs.Names.{Names, texts_of}
 
 abbrev pub input_of : tokens.Inside → Input
@@ -52,8 +53,8 @@ with_let names text = record names { lets = names.lets ++ text ∷ [] }
 
 -- at most six declared names and eight `let` lines
 pub record AreFew (names : Names) : Type 0 where
-  pub variables : length names.variables ≤ 6
-  pub lets : length names.lets ≤ 8
+  pub variables : length names.variables ≤ most_names
+  pub lets : length names.lets ≤ most_lets
 
 -- the same, with the texts of a table
 pub record AreNames (names : Names) (texts : List (List ℕ)) : Type 0 where
@@ -66,8 +67,8 @@ known_at declared (Some at) = if nat_lt at declared then Variable at else Let (a
 known_at declared None = Unknown
 
 abbrev pub IsPlaceIn : Names → Known → Type 0
-IsPlaceIn names (Variable at) = (at < length names.variables) × (at < 6)
-IsPlaceIn names (Let at) = (at < length names.lets) × (at < 8)
+IsPlaceIn names (Variable at) = (at < length names.variables) × (at < most_names)
+IsPlaceIn names (Let at) = (at < length names.lets) × (at < most_lets)
 IsPlaceIn names Unknown = Unit {0}
 
 -- which symbols a letter stands for

@@ -16,13 +16,11 @@ use Rattle.ct_problem.specs.declared.fault.BadKind.TheVariants.{TooMany, NameToo
 use Rattle.ct_problem.specs.declared.reading.declarations.NameLine.{NameLine}
 use Rattle.ct_problem.specs.declared.reading.declarations.NameLine.TheVariants.{Free, Sum, Int, Param}
 use Rattle.ct_problem.specs.Input.{Input, Parser, ◌>>=◌, ◌>>◌, pure, look, syntax, peek, skip, spelling, sees_word, eat_word, expect_word, line_end}
+use Rattle.ct_problem.specs.Limits.{most_names, longest_name}
 use Rattle.ct_problem.specs.Names.{Names, is_new, summed_texts}
-use Rattle.ct_problem.specs.Number.{unless}
+use Rattle.ct_problem.specs.Number.{fault_if}
 
 -- ---- a name that is declared
-
-abbrev pub longest_name : ℕ
-longest_name = 32
 
 abbrev pub spelled_word : Option Symbol → Parser (List ℕ)
 spelled_word (Some Word) = look spelling
@@ -31,8 +29,8 @@ spelled_word _ = syntax
 unfoldable pub new_name : Names → Parser (List ℕ)
 new_name names = do
   text ← peek >>= spelled_word
-  unless (nat_lt longest_name (length text)) NameTooLong
-  unless (not (is_new text names)) DuplicateName
+  fault_if (nat_lt longest_name (length text)) NameTooLong
+  fault_if (not (is_new text names)) DuplicateName
   skip
   pure text
 
@@ -86,19 +84,16 @@ declared found = record { variables = found; lets = [] }
 -- a name line, after these names
 unfoldable pub declaration : NameLine → List Naming → Parser Naming
 declaration line found = do
-  unless (is_full line found) TooMany
+  fault_if (is_full line found) TooMany
   skip
   text ← new_name (declared found)
   action ← action_of_line line
   line_end
   pure (record { text = text; action = action; role = role_of_line line })
 
-abbrev pub most_names : ℕ
-most_names = 6
-
 abbrev pub full_by : List Naming → Option NameLine → Parser (List Naming)
 full_by found None = pure found
-full_by found (Some line) = unless true TooMany >> pure found
+full_by found (Some line) = fault_if true TooMany >> pure found
 
 abbrev pub declarations_by : (NameLine → Parser (List Naming)) → List Naming → Option NameLine → Parser (List Naming)
 declarations_by more found None = pure found

@@ -14,6 +14,7 @@ use Rattle.ct_problem.specs.Input.{Parser, ◌>>=◌, ◌>>◌, pure, look, faul
 use Rattle.ct_problem.specs.Expressions.{coming}
 use Rattle.ct_problem.specs.Lines.{no_more, value}
 use Rattle.ct_problem.specs.Names.{Names, summed_texts}
+use Rattle.ct_problem.specs.Signs.{colon}
 
 -- what stands for each declared name
 abbrev pub Dens : Type 0
@@ -62,7 +63,7 @@ module _ (names : Names) where
     skip
     at ← summed_name
     once (is_given at found) start
-    expect 58
+    expect colon
     x ← value names false
     pure (with_den at x found)
 

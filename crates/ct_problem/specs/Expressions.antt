@@ -21,8 +21,10 @@ use Rattle.ct_problem.specs.declared.reading.names.Known.{Known}
 use Rattle.ct_problem.specs.declared.reading.names.Known.TheVariants.{Variable, Let, Unknown}
 unfoldable pub use Rattle.ct_problem.specs.Grammar.{product_of, summand}
 use Rattle.ct_problem.specs.Input.{Input, Parser, ◌>>=◌, ◌>>◌, ◌<$>◌, pure, look, fault, syntax, peek, skip, spelling, eat, expect, sees, sees_word}
+use Rattle.ct_problem.specs.Limits.{most_open}
 use Rattle.ct_problem.specs.Names.{Names, known, acts_as}
-use Rattle.ct_problem.specs.Number.{coming_number, number, unless}
+use Rattle.ct_problem.specs.Number.{coming_number, number, fault_if}
+use Rattle.ct_problem.specs.Signs.{plus, minus, star, caret, slash, open_parenthesis, close_parenthesis, open_bracket, close_bracket}
 
 -- which symbols the letter that comes next stands for
 unfoldable pub letter : Input → Option Action
@@ -34,7 +36,7 @@ letter i = if sees_word (codes "S") i then Some Shift else (if sees_word (codes 
 unfoldable pub divisor : Parser ℕ
 divisor = do
   n ← coming_number
-  unless (n == 0) ZeroDenominator
+  fault_if (n == 0) ZeroDenominator
   skip
   pure n
 
@@ -47,21 +49,21 @@ whole = do
 unfoldable pub constant : Parser Expr
 constant = do
   n ← whole
-  is_ratio ← eat 47
+  is_ratio ← eat slash
   if is_ratio then (do d ← divisor; pure (e.Ratio (pos n) (pos d))) else pure (e.Whole (pos n))
 
 -- `+` or `-`, which says whether the term after it is negative
 unfoldable pub joint : Parser (Option Bool)
 joint = do
-  plus ← eat 43
-  if plus then pure (Some false) else (do minus ← eat 45; pure (if minus then Some true else None))
+  adds ← eat plus
+  if adds then pure (Some false) else (do subtracts ← eat minus; pure (if subtracts then Some true else None))
 
 abbrev pub is_minus : Option Bool → Bool
 is_minus (Some negative) = negative
 is_minus None = false
 
 abbrev pub joins : Input → Bool
-joins i = sees 43 i || sees 45 i
+joins i = sees plus i || sees minus i
 
 module _ (names : Names) where
   -- ---- names
@@ -96,9 +98,9 @@ module _ (names : Names) where
   unfoldable pub symbol_by : Action → Parser Expr
   symbol_by action = do
     skip
-    expect 91
+    expect open_bracket
     found ← acting action
-    expect 93
+    expect close_bracket
     pure found
 
   module _ (operators : Bool) where
@@ -115,7 +117,7 @@ module _ (names : Names) where
       abbrev pub atom_by : Option Symbol → Parser Expr
       atom_by (Some Number) = constant
       atom_by (Some Word) = word
-      atom_by (Some (Sign s)) = if s == 40 then nested else syntax
+      atom_by (Some (Sign s)) = if s == open_parenthesis then nested else syntax
       atom_by _ = syntax
 
       unfoldable pub atom : Parser Expr
@@ -124,7 +126,7 @@ module _ (names : Names) where
       unfoldable pub factor : Parser Expr
       factor = do
         base ← atom
-        is_power ← eat 94
+        is_power ← eat caret
         if is_power then (do n ← number largest_degree ExponentTooLarge; pure (e.Power base n)) else pure base
 
       -- The number bounds the turns, and each takes a token.
@@ -132,7 +134,7 @@ module _ (names : Names) where
       factors_from zero found = syntax
       factors_from (suc n) found = do
         x ← factor
-        more ← eat 42
+        more ← eat star
         if more then factors_from n (found ++ x ∷ []) else pure (product_of (found ++ x ∷ []))
 
       unfoldable pub term : Parser Expr
@@ -149,7 +151,7 @@ module _ (names : Names) where
 
       unfoldable pub sum : Parser Expr
       sum = do
-        negative ← eat 45
+        negative ← eat minus
         first ← term
         more ← look joins
         if negative || more then e.Sum <$> summands first negative else pure first
@@ -160,11 +162,8 @@ module _ (names : Names) where
     nested (suc depth) = do
       skip
       inner ← sum (nested depth)
-      expect 41
+      expect close_parenthesis
       pure inner
-
-    abbrev pub most_open : ℕ
-    most_open = 64
 
     abbrev pub expression : Parser Expr
     expression = sum (nested most_open)

@@ -15,6 +15,7 @@ use Rattle.ct_mono.specs.Limits.{largest_degree, largest_norm}
 use Rattle.ct_expr.specs.declared.expr.Expr.{Expr}
 use Rattle.ct_expr.specs.declared.expr.Expr.TheVariants as e
 use Rattle.ct_expr.specs.declared.expr.Summand.{Summand, roll-Summand}
+use Rattle.ct_problem.specs.Limits.{most_open}
 use Rattle.ct_problem.specs.Names.{Names, is_named, acts_as}
 use Rattle.ct_problem.specs.Lexemes.{Lexeme, Word, Sign, Texts, one, optional, number, ◌▸◌, each}
 use Rattle.ct_problem.specs.Signs.{plus, minus, star, caret, open_parenthesis, close_parenthesis, open_bracket, close_bracket, slash}
@@ -102,4 +103,4 @@ module _ (names : Names) where
     IsNested (suc depth) x ls = (one (Sign open_parenthesis) ▸ IsSum (IsNested depth) x ▸ one (Sign close_parenthesis)) ls
 
     abbrev pub IsExpression : Expr → Texts
-    IsExpression x = IsSum (IsNested 64) x
+    IsExpression x = IsSum (IsNested most_open) x

@@ -15,6 +15,7 @@ use Rattle.ct_problem.specs.declared.problem.LetForm.TheVariants.{Gens, Plus, Pr
 use Rattle.ct_problem.specs.Grammar.{IsExpression}
 use Rattle.ct_problem.specs.LetLines.{Definition, with_definitions}
 use Rattle.ct_problem.specs.Lexemes.{Lexeme, Word, Sign, LineEnd, Texts, nothing, one, ◌▸◌, each}
+use Rattle.ct_problem.specs.Limits.{longest_name, most_lets, most_listed}
 use Rattle.ct_problem.specs.Names.{Names, is_named, is_new}
 use Rattle.ct_problem.specs.Signs.{colon, semicolon, equals}
 
@@ -27,7 +28,7 @@ none ls = ⊥
 module _ (names : Names) where
   -- a text that may be declared
   pub record IsDeclarable (text : List ℕ) : Type 0 where
-    pub short : length text ≤ 32
+    pub short : length text ≤ longest_name
     pub other : IsTrue (is_new text names)
 
   abbrev pub declared : List ℕ → Texts
@@ -54,7 +55,7 @@ module _ (names : Names) where
   listed (x ∷ xs) = IsExpression names true x ▸ each more_listed xs
 
   abbrev pub let_form : LetForm → Texts
-  let_form (Gens xs) ls = (length xs ≤ 16) × (one (Word (codes "gens")) ▸ listed xs) ls
+  let_form (Gens xs) ls = (length xs ≤ most_listed) × (one (Word (codes "gens")) ▸ listed xs) ls
   let_form (Plus a b) ls = (one (Word (codes "plus")) ▸ list a ▸ list b) ls
   let_form (Product a b) ls = (one (Word (codes "product")) ▸ list a ▸ list b) ls
   let_form (Apply a x) ls = (one (Word (codes "apply")) ▸ list a ▸ one (Sign colon) ▸ IsExpression names true x) ls
@@ -71,4 +72,4 @@ let_lines_behind variables before (d ∷ ds) =
     let_line (with_definitions variables before) d ▸ let_lines_behind variables (before ++ d ∷ []) ds
 
 abbrev pub let_lines : List Naming → List Definition → Texts
-let_lines variables ds ls = (length ds ≤ 8) × let_lines_behind variables [] ds ls
+let_lines variables ds ls = (length ds ≤ most_lets) × let_lines_behind variables [] ds ls

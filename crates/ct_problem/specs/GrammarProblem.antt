@@ -34,8 +34,9 @@ use Rattle.ct_problem.specs.Grammar.{IsExpression}
 use Rattle.ct_problem.specs.GrammarLets.{none, declared, list, let_lines}
 use Rattle.ct_problem.specs.LetLines.{with_definitions}
 use Rattle.ct_problem.specs.Lexemes.{Lexeme, Word, Number, Sign, Dots, LineEnd, Texts, nothing, one, number, ◌▸◌, each, lexemes}
+use Rattle.ct_problem.specs.Limits.{most_bytes, most_names, most_listed, highest_order, highest_degree}
 use Rattle.ct_problem.specs.Names.{Names, is_named, summed_texts}
-use Rattle.ct_problem.specs.ReadProblem.{Reading, has_needs, most_bytes}
+use Rattle.ct_problem.specs.ReadProblem.{Reading, has_needs}
 use Rattle.ct_problem.specs.Signs.{colon}
 
 -- the first line of a problem or a report
@@ -61,7 +62,7 @@ name_lines before (n ∷ ns) = name_line before n.action n.role n.text ▸ name_
 -- as many names as there may be
 pub record AreFew (variables : List Naming) : Type 0 where
   pub some : 0 < length variables
-  pub few : length variables ≤ 6
+  pub few : length variables ≤ most_names
   pub few_operators : count_by has_operator variables ≤ 4
   pub few_summed : length (summed_texts variables) ≤ 3
 
@@ -77,7 +78,7 @@ module _ (names : Names) where
   keyed key operators x = one (Word key) ▸ value operators x
 
   abbrev pub values : List ℕ → List Expr → Texts
-  values key xs ls = (length xs ≤ 16) × each (keyed key true) xs ls
+  values key xs ls = (length xs ≤ most_listed) × each (keyed key true) xs ls
 
   abbrev pub generators : Gens → Texts
   generators (Listed xs) = values (codes "gen") xs
@@ -133,8 +134,8 @@ lines p =
     ▸ generators (names_of p) p.generators
     ▸ den_lines (names_of p) p.dens
     ▸ values (names_of p) (codes "target") p.targets
-    ▸ range_line (codes "order") 8 p.orders
-    ▸ range_line (codes "degree") 12 p.degrees
+    ▸ range_line (codes "order") highest_order p.orders
+    ▸ range_line (codes "degree") highest_degree p.degrees
 
 pub record Says (p : Reading) (ls : List Lexeme) : Type 0 where
   pub names : AreFew p.variables

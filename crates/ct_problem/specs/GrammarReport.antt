@@ -22,6 +22,7 @@ use Rattle.ct_problem.specs.Declarations.{declared}
 use Rattle.ct_problem.specs.GrammarLets.{none}
 use Rattle.ct_problem.specs.GrammarProblem.{header, value, keyed}
 use Rattle.ct_problem.specs.Lexemes.{Word, Number, Sign, LineEnd, Texts, nothing, one, number, ◌▸◌, lexemes}
+use Rattle.ct_problem.specs.Limits.{largest_index}
 use Rattle.ct_problem.specs.Names.{Names, summed_texts}
 use Rattle.ct_problem.specs.Plain.{is_plain}
 use Rattle.ct_problem.specs.Signs.{colon}
@@ -56,7 +57,7 @@ each_with line _ _ = none
 
 -- a word, and a number after it
 abbrev pub numbered : List ℕ → ℕ → Texts
-numbered key n = one (Word key) ▸ number 65535 n
+numbered key n = one (Word key) ▸ number largest_index n
 
 -- the second line of a report
 abbrev pub found_line : ℕ → ℕ → ℕ → Texts

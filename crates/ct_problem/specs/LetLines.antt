@@ -22,9 +22,11 @@ use Rattle.ct_problem.specs.declared.reading.let_lines.LetWord.TheVariants.{Gens
 use Rattle.ct_problem.specs.Input.{Input, Parser, ◌>>=◌, ◌>>◌, ◌<$>◌, pure, look, fault, syntax, peek, skip, sees_word, eat, eat_word, expect, line_end}
 use Rattle.ct_problem.specs.Declarations.{new_name}
 use Rattle.ct_problem.specs.Expressions.{coming, expression}
+use Rattle.ct_problem.specs.Limits.{most_lets, most_listed}
 use Rattle.ct_problem.specs.Lines.{no_more}
 use Rattle.ct_problem.specs.Names.{Names}
-use Rattle.ct_problem.specs.Number.{unless}
+use Rattle.ct_problem.specs.Number.{fault_if}
+use Rattle.ct_problem.specs.Signs.{minus, open_parenthesis, colon, semicolon, equals}
 
 -- the text of a `let` line's name, and what stands for it
 pub record Definition : Type 0 where
@@ -39,14 +41,14 @@ with_definitions variables found = record { variables = variables; lets = map (�
 abbrev pub begins_expression : Option Symbol → Bool
 begins_expression (Some Number) = true
 begins_expression (Some Word) = true
-begins_expression (Some (Sign s)) = s == 45 || s == 40
+begins_expression (Some (Sign s)) = s == minus || s == open_parenthesis
 begins_expression _ = false
 
 -- one more expression than there may be
 unfoldable pub one_too_many : Parser (List Expr)
 one_too_many = do
   first ← peek
-  unless (begins_expression first) TooMany
+  fault_if (begins_expression first) TooMany
   syntax
 
 -- which form begins here
@@ -75,11 +77,8 @@ module _ (names : Names) where
   listed_from zero found = one_too_many
   listed_from (suc n) found = do
     x ← expression names true
-    more ← eat 59
+    more ← eat semicolon
     if more then listed_from n (found ++ x ∷ []) else pure (found ++ x ∷ [])
-
-  abbrev pub most_listed : ℕ
-  most_listed = 16
 
   unfoldable pub two_lists : Parser (ℕ × ℕ)
   two_lists = do
@@ -90,7 +89,7 @@ module _ (names : Names) where
   unfoldable pub applied : Parser LetForm
   applied = do
     at ← list_name
-    expect 58
+    expect colon
     x ← expression names true
     pure (form.Apply at x)
 
@@ -112,13 +111,10 @@ module _ (names : Names) where
   unfoldable pub definition : Parser Definition
   definition = do
     text ← new_name names
-    expect 61
+    expect equals
     form ← let_form
     line_end
     pure (record { text = text; form = form })
-
-abbrev pub most_lets : ℕ
-most_lets = 8
 
 module _ (variables : List Naming) where
   -- at most so many more lines

@@ -1,6 +1,7 @@
 pub mod Plain
 pub mod Lexemes
 pub mod Signs
+pub mod Limits
 pub mod Names
 pub mod Grammar
 pub mod GrammarLets
@@ -21,5 +22,6 @@ pub mod ReadProblem
 pub mod Draft
 pub mod ReportLines
 pub mod ReadReport
+pub mod OverNames
 pub mod WellFormed
 pub mod WellFormedProps

@@ -7,9 +7,11 @@ use Rattle.std.specs.Prelude.{ℕ, zero, suc, Bool, true, if◌then◌else◌, L
 use Rattle.ct_expr.specs.declared.expr.Expr.{Expr}
 use Rattle.ct_problem.specs.declared.fault.BadKind.TheVariants.{TooMany}
 use Rattle.ct_problem.specs.Input.{Parser, ◌>>=◌, ◌>>◌, pure, look, expect, eat_word, expect_word, sees_word, line_end}
-use Rattle.ct_problem.specs.Number.{exactly, unless}
+use Rattle.ct_problem.specs.Number.{exactly, fault_if}
 use Rattle.ct_problem.specs.Expressions.{expression}
+use Rattle.ct_problem.specs.Limits.{most_listed}
 use Rattle.ct_problem.specs.Names.{Names}
+use Rattle.ct_problem.specs.Signs.{colon}
 
 unfoldable pub header : List ℕ → Parser (Unit {0})
 header kind = do
@@ -22,7 +24,7 @@ header kind = do
 unfoldable pub no_more : List ℕ → Parser (Unit {0})
 no_more key = do
   more ← look (sees_word key)
-  unless more TooMany
+  fault_if more TooMany
 
 module _ (names : Names) where
   unfoldable pub value : Bool → Parser Expr
@@ -35,11 +37,8 @@ module _ (names : Names) where
   part key text operators = do
     expect_word key
     expect_word text
-    expect 58
+    expect colon
     value operators
-
-  abbrev pub most_values : ℕ
-  most_values = 16
 
   -- at most so many more lines
   unfoldable pub value_lines_from : List ℕ → ℕ → List Expr → Parser (List Expr)
@@ -49,4 +48,4 @@ module _ (names : Names) where
     if more then (do x ← value true; value_lines_from key n (found ++ x ∷ [])) else pure found
 
   unfoldable pub value_lines : List ℕ → Parser (List Expr)
-  value_lines key = value_lines_from key most_values []
+  value_lines key = value_lines_from key most_listed []

@@ -25,21 +25,21 @@ digits_by _ = syntax
 unfoldable pub digits : Parser ℕ
 digits = peek >>= digits_by
 
--- a fault at the next token where a test fails
-abbrev pub unless : Bool → BadKind → Parser (Unit {0})
-unless true kind = fault kind
-unless false kind = pure tt
+-- a fault at the next token where this is so
+abbrev pub fault_if : Bool → BadKind → Parser (Unit {0})
+fault_if true kind = fault kind
+fault_if false kind = pure tt
 
 unfoldable pub coming_number : Parser ℕ
 coming_number = do
   n ← digits
-  unless (nat_lt largest_norm n) NumberTooLarge
+  fault_if (nat_lt largest_norm n) NumberTooLarge
   pure n
 
 unfoldable pub number : ℕ → BadKind → Parser ℕ
 number limit kind = do
   n ← coming_number
-  unless (nat_lt limit n) kind
+  fault_if (nat_lt limit n) kind
   skip
   pure n
 

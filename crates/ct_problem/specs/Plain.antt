@@ -1,10 +1,11 @@
--- The bytes of a report in the plain form: at most 2^26, spaces and printable ASCII but for `#` and `/`, in lines that each
+-- The bytes of a report in the first form: at most 2^26, spaces and printable ASCII but for `#` and `/`, in lines that each
 -- end with a line feed, and no line of spaces alone.
 --     line_after line b    where a line is after one more byte, if that byte may stand there
 --     is_plain bytes       whether a text is like that
 use Rattle.std.specs.Prelude.{ℕ, ◌==◌, ◌&&◌, ◌||◌, not, nat_le, Bool, true, false, if◌then◌else◌, List, [], ◌∷◌, length, Option, Some, None}
 use Rattle.ct_problem.specs.declared.reading.plain.Line.{Line}
 use Rattle.ct_problem.specs.declared.reading.plain.Line.TheVariants.{Ended, Blank, Written}
+use Rattle.ct_problem.specs.Limits.{most_bytes}
 
 -- a byte that may stand in a line, other than a space
 abbrev pub is_written : ℕ → Bool
@@ -38,9 +39,6 @@ goes_on None b = None
 unfoldable pub after_all : Option Line → List ℕ → Option Line
 after_all line [] = line
 after_all line (b ∷ bs) = after_all (goes_on line b) bs
-
-abbrev pub most_bytes : ℕ
-most_bytes = 67108864
 
 unfoldable pub is_plain : List ℕ → Bool
 is_plain bytes = nat_le (length bytes) most_bytes && ends (after_all (Some Ended) bytes)

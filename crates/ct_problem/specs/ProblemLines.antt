@@ -18,7 +18,7 @@ use Rattle.ct_problem.specs.Input.{Parser, ◌>>=◌, ◌>>◌, pure, skip, eat_
 use Rattle.ct_problem.specs.LetLines.{list_name}
 use Rattle.ct_problem.specs.Lines.{no_more, value_lines}
 use Rattle.ct_problem.specs.Names.{Names}
-use Rattle.ct_problem.specs.Number.{coming_number, number, unless}
+use Rattle.ct_problem.specs.Number.{coming_number, number, fault_if}
 
 module _ (names : Names) where
   -- a `use` line behind its first word
@@ -44,8 +44,8 @@ module _ (names : Names) where
 unfoldable pub high_number : ℕ → ℕ → Parser ℕ
 high_number limit low = do
   n ← coming_number
-  unless (nat_lt limit n) OutOfRange
-  unless (nat_lt n low) EmptyRange
+  fault_if (nat_lt limit n) OutOfRange
+  fault_if (nat_lt n low) EmptyRange
   skip
   pure n
 

@@ -30,9 +30,10 @@ use Rattle.ct_problem.specs.Input.{Input, Outcome, Parser, ◌>>=◌, ◌>>◌, 
 use Rattle.ct_problem.specs.Declarations.{declarations}
 use Rattle.ct_problem.specs.DenLines.{Dens, den_lines}
 use Rattle.ct_problem.specs.LetLines.{Definition, with_definitions, let_lines}
+use Rattle.ct_problem.specs.Limits.{most_bytes, highest_order, highest_degree}
 use Rattle.ct_problem.specs.Lines.{header, value_lines}
 use Rattle.ct_problem.specs.Names.{summed_texts}
-use Rattle.ct_problem.specs.Number.{unless}
+use Rattle.ct_problem.specs.Number.{fault_if}
 use Rattle.ct_problem.specs.ProblemLines.{generators, range_line}
 
 -- what a text says of a problem
@@ -114,7 +115,7 @@ behind_end _ = nothing_left
 unfoldable pub last_line : Command → Reading → Parser ℕ
 last_line command p = do
   is_end ← look (sees_word (codes "end"))
-  if is_end then unless (lacks command p) Missing else syntax
+  if is_end then fault_if (lacks command p) Missing else syntax
   skip
   at ← ending
   behind_end command
@@ -128,8 +129,8 @@ body variables definitions = do
   generators ← generators (with_definitions variables definitions)
   dens ← den_lines (with_definitions variables definitions)
   targets ← value_lines (with_definitions variables definitions) (codes "target")
-  orders ← range_line (codes "order") 8
-  degrees ← range_line (codes "degree") 12
+  orders ← range_line (codes "order") highest_order
+  degrees ← range_line (codes "degree") highest_degree
   pure (record { variables = variables; definitions = definitions; generators = generators; dens = dens; targets = targets; orders = orders; degrees = degrees })
 
 -- the first line, the names and the `let` lines
@@ -148,9 +149,6 @@ problem command = do
   p ← body names.0 names.1
   end ← last_line command p
   pure (p, end)
-
-abbrev pub most_bytes : ℕ
-most_bytes = 67108864
 
 abbrev pub value_of : {A : Type 0} → Outcome A → Result A BadInput
 value_of (Ok p) = Ok p.0

@@ -1,8 +1,8 @@
--- Reading a report that found a telescoper, in the plain form: from the place where it begins, at most 2^26 bytes, in lines that each
+-- Reading a report that found a telescoper, in the first form: from the place where it begins, at most 2^26 bytes, in lines that each
 -- end with a line feed, with no blank line, comment, tab or `/`. Which bytes stand for which report is said in `GrammarReport.antt`;
 -- `read_found_report` has both, as its clauses `reads`, `accepts` and `refuses`.
 --     report_of variables count bytes from     the report that the bytes from there on are read as, or none
---     Gives o r                                what a call may answer to that
+--     found o                                  what was read, if it was
 use Rattle.std.specs.Prelude.{ℕ, List, drop, if◌then◌else◌, Option, Some, None, Ok, Err}
 use Rattle.ct_token.specs.Lexical.{scan_of}
 use Rattle.ct_ore.specs.Naming.{Naming}

@@ -18,12 +18,11 @@ use Rattle.ct_problem.specs.declared.report.Quotient.{Quotient}
 use Rattle.ct_problem.specs.declared.report.Report.{Report}
 use Rattle.ct_problem.specs.Declarations.{declared}
 use Rattle.ct_problem.specs.Input.{Parser, ◌>>=◌, ◌>>◌, pure, fault, expect, expect_word, line_end}
+use Rattle.ct_problem.specs.Limits.{largest_index}
 use Rattle.ct_problem.specs.Lines.{header, value, part}
 use Rattle.ct_problem.specs.Names.{Names, summed_texts}
 use Rattle.ct_problem.specs.Number.{number, exactly}
-
-abbrev pub largest_index : ℕ
-largest_index = 65535
+use Rattle.ct_problem.specs.Signs.{colon}
 
 abbrev pub numbered : List ℕ → Parser ℕ
 numbered key = expect_word key >> number largest_index OutOfRange
@@ -60,7 +59,7 @@ module _ (names : Names) where
   cofactor number = do
     expect_word (codes "cofactor")
     exactly number
-    expect 58
+    expect colon
     value names true
 
   -- so many more cofactors, the first of this number

@@ -13,7 +13,7 @@ use Rattle.ct_problem.specs.declared.problem.LetForm.{LetForm}
 use Rattle.ct_problem.specs.declared.problem.LetForm.TheVariants as form
 use Rattle.ct_problem.specs.declared.problem.Range.{Range}
 use Rattle.ct_problem.specs.DenLines.{Dens}
-use Rattle.ct_problem.specs.WellFormed.{IsOperator, IsPolynomial, Each, AreGenerators, IsForm, AreForms, IsGens, AreDens, IsRange, IsWellFormed}
+use Rattle.ct_problem.specs.WellFormed.{IsOperator, IsPolynomial, Each, AreGenerators, IsForm, AreForms, IsGens, AreDensOf, IsRange, IsWellFormed}
 
 -- ---- names
 
@@ -39,43 +39,44 @@ TextsDiffer-prop (n ∷ ns) = ×_prop (IsOtherText-prop n.text ns) (TextsDiffer-
 IsAlgebra-prop : (ns : List Naming) → IsProp (IsAlgebra ns)
 IsAlgebra-prop ns = hlevel (props, EachIsNaming-prop, TextsDiffer-prop)
 
--- ---- expressions
+module _ (ns : List Naming) where
+  -- ---- expressions
 
-IsOperator-prop : (x : Expr) → IsProp (IsOperator x)
-IsOperator-prop x = Bool-set _ _
+  IsOperator-prop : (x : Expr) → IsProp (IsOperator ns x)
+  IsOperator-prop x = hlevel props
 
-IsPolynomial-prop : (x : Expr) → IsProp (IsPolynomial x)
-IsPolynomial-prop x = hlevel props
+  IsPolynomial-prop : (x : Expr) → IsProp (IsPolynomial ns x)
+  IsPolynomial-prop x = hlevel props
 
-AreOperators-prop : (xs : List Expr) → IsProp (Each IsOperator xs)
-AreOperators-prop [] = Unit-prop
-AreOperators-prop (x ∷ xs) = ×_prop (IsOperator-prop x) (AreOperators-prop xs)
+  AreOperators-prop : (xs : List Expr) → IsProp (Each (IsOperator ns) xs)
+  AreOperators-prop [] = Unit-prop
+  AreOperators-prop (x ∷ xs) = ×_prop (IsOperator-prop x) (AreOperators-prop xs)
 
-AreGenerators-prop : (xs : List Expr) → IsProp (AreGenerators xs)
-AreGenerators-prop xs = hlevel (props, AreOperators-prop)
+  AreGenerators-prop : (xs : List Expr) → IsProp (AreGenerators ns xs)
+  AreGenerators-prop xs = hlevel (props, AreOperators-prop)
 
--- ---- lines
+  -- ---- lines
 
-IsForm-prop : (lines : ℕ) (f : LetForm) → IsProp (IsForm lines f)
-IsForm-prop lines (form.Gens xs) = AreGenerators-prop xs
-IsForm-prop lines (form.Plus a b) = ×_prop le_prop le_prop
-IsForm-prop lines (form.Product a b) = ×_prop le_prop le_prop
-IsForm-prop lines (form.Apply a x) = ×_prop le_prop (IsOperator-prop x)
+  IsForm-prop : (lines : ℕ) (f : LetForm) → IsProp (IsForm ns lines f)
+  IsForm-prop lines (form.Gens xs) = AreGenerators-prop xs
+  IsForm-prop lines (form.Plus a b) = ×_prop le_prop le_prop
+  IsForm-prop lines (form.Product a b) = ×_prop le_prop le_prop
+  IsForm-prop lines (form.Apply a x) = ×_prop le_prop (IsOperator-prop x)
 
-AreForms-prop : (lines : ℕ) (fs : List LetForm) → IsProp (AreForms lines fs)
-AreForms-prop lines [] = Unit-prop
-AreForms-prop lines (f ∷ fs) = ×_prop (IsForm-prop lines f) (AreForms-prop (suc lines) fs)
+  AreForms-prop : (lines : ℕ) (fs : List LetForm) → IsProp (AreForms ns lines fs)
+  AreForms-prop lines [] = Unit-prop
+  AreForms-prop lines (f ∷ fs) = ×_prop (IsForm-prop lines f) (AreForms-prop (suc lines) fs)
 
-IsGens-prop : (lines : ℕ) (g : Gens) → IsProp (IsGens lines g)
-IsGens-prop lines (gens.Listed xs) = AreGenerators-prop xs
-IsGens-prop lines (gens.Named at) = le_prop
+  IsGens-prop : (lines : ℕ) (g : Gens) → IsProp (IsGens ns lines g)
+  IsGens-prop lines (gens.Listed xs) = AreGenerators-prop xs
+  IsGens-prop lines (gens.Named at) = le_prop
 
-AreDens-prop : (ns : List Naming) (ds : Dens) → IsProp (AreDens ns ds)
-AreDens-prop [] [] = Unit-prop
-AreDens-prop [] (d ∷ ds) = ⊥_prop
-AreDens-prop (n ∷ ns) [] = ⊥_prop
-AreDens-prop (n ∷ ns) (None ∷ ds) = AreDens-prop ns ds
-AreDens-prop (n ∷ ns) (Some x ∷ ds) = ×_prop (×_prop (Bool-set _ _) (IsPolynomial-prop x)) (AreDens-prop ns ds)
+  AreDensOf-prop : (more : List Naming) (ds : Dens) → IsProp (AreDensOf ns more ds)
+  AreDensOf-prop [] [] = Unit-prop
+  AreDensOf-prop [] (d ∷ ds) = ⊥_prop
+  AreDensOf-prop (n ∷ more) [] = ⊥_prop
+  AreDensOf-prop (n ∷ more) (None ∷ ds) = AreDensOf-prop more ds
+  AreDensOf-prop (n ∷ more) (Some x ∷ ds) = ×_prop (×_prop (Bool-set _ _) (IsPolynomial-prop x)) (AreDensOf-prop more ds)
 
 IsRange-prop : (limit : ℕ) (r : Option Range) → IsProp (IsRange limit r)
 IsRange-prop limit None = Unit-prop
@@ -87,4 +88,4 @@ pub IsWellFormed-prop :
     {Text : Type 0} {algebra : List Naming} {lets : List LetForm} {let_names : List Text} {gens : Gens} {dens : Dens}
     {targets : List Expr} {orders degrees : Option Range} →
     IsProp (IsWellFormed algebra lets let_names gens dens targets orders degrees)
-IsWellFormed-prop = hlevel (props, IsAlgebra-prop, AreForms-prop, IsGens-prop, AreDens-prop, AreGenerators-prop, IsRange-prop)
+IsWellFormed-prop = hlevel (props, IsAlgebra-prop, AreForms-prop, IsGens-prop, AreDensOf-prop, AreGenerators-prop, IsRange-prop)

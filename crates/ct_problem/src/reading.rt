@@ -1,6 +1,5 @@
 // Reading problems, and reports that found a telescoper.
-ghost use Rattle.std.specs.Prelude.{◌≡◌, ◌≢◌, ◌≤◌, [], length, IfOk, IfErr, IfSome, None};
-ghost use Rattle.ct_ore.specs.Naming.{summed_of};
+ghost use Rattle.std.specs.Prelude.{◌≡◌, ◌≢◌, ◌≤◌, length, IfOk, IfErr, IfSome, None};
 ghost use Rattle.ct_problem.specs.Cursor.{IsCursor};
 ghost use Rattle.ct_problem.specs.Declarations.{declared};
 ghost use Rattle.ct_problem.specs.Draft.{IsFormed, reading_of_draft};
@@ -119,7 +118,7 @@ pub fn read_found_report(
 ) -> Result<Option<Report>, NoMemory>
     requires { from ≤ length bytes.now }
     ensures reads { IfOk result (λ r. r ≡ report_of algebra.now generators bytes.now from) }
-    ensures formed { IfOk result (λ o. IfSome o (IsReportOn (length (summed_of algebra.now)) generators)) }
+    ensures formed { IfOk result (λ o. IfSome o (IsReportOn algebra.now generators)) }
     ensures accepts { IfOk result (λ o. IfSome o (ReportStandsFor algebra.now generators bytes.now from)) }
     ensures refuses { IfOk result (λ o. o ≡ None → ReportStandsForNone algebra.now generators bytes.now from) }
 {

@@ -3,7 +3,7 @@
 use ct_expr::Expr;
 use sqlite_items::Items;
 
-/// What is put in front of a summed name's symbol: a numerator over a denominator.
+/// The certificate of a summed name: a numerator over a denominator.
 #[derive(Drop)]
 pub struct Quotient {
     pub numerator: Expr,

@@ -57,7 +57,7 @@ pub record FitsNames (names : List Naming) (generators : ℕ) (c : Certificate) 
   pub cofactors : length c.cofactors ≡ generators
 
 pub certificate_fits :
-    (names : List Naming) (generators : ℕ) (r : Report) (c : Certificate) → IsReportOn (length (summed_of names)) generators r →
+    (names : List Naming) (generators : ℕ) (r : Report) (c : Certificate) → IsReportOn names generators r →
     checked_certificate names r ≡ Ok c → FitsNames names generators c
 unfolding checked_certificate
 certificate_fits names generators r c on fits =

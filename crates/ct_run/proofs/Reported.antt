@@ -5,7 +5,8 @@ use Rattle.std.proofs.Common.{◌≡◌, ◌<◌, ◌+◌, Err, ap, ◌∙◌, a
 use Rattle.std.proofs.lemmas.Bool.{cases_lt}
 use Rattle.std.proofs.lemmas.List.{length-take, take_all}
 use Rattle.ct_io.specs.declared.command.Command.{Command}
-use Rattle.ct_problem.specs.ReadProblem.{problem_of, too_long, most_bytes}
+use Rattle.ct_problem.specs.Limits.{most_bytes}
+use Rattle.ct_problem.specs.ReadProblem.{problem_of, too_long}
 use Rattle.ct_run.specs.Output.{Output}
 use Rattle.ct_run.specs.Out.{largest_text, out}
 use Rattle.ct_run.specs.Run.{Reports}

@@ -41,7 +41,7 @@ module _ (bytes : List ℕ) (p : Reading) (end : ℕ) (read : problem_of Check b
   known = let made = reading_is Check bytes (p, end) read in made.names
 
   module _ (r : Report) (reported : report_of p.variables (length (listed p.generators)) bytes end ≡ Some r) where
-    on : IsReportOn (length (summed_of p.variables)) (length (listed p.generators)) r
+    on : IsReportOn p.variables (length (listed p.generators)) r
     on = report_is p.variables known.few (length (listed p.generators)) bytes end r reported
 
     by_tests :

@@ -7,12 +7,11 @@
 --     overflow_in_reduction t kind    the reduction of the target with this number does
 --     yes_line, no_line, overflow_in_test     the tests pass, one fails at its place, or one overflows there
 --     verdict_line names t            the line of the tests' outcome
-use Rattle.std.specs.Prelude.{ℕ, List, [], ◌∷◌, ◌++◌, Ok, Err, codes, decimal, get_or}
+use Rattle.std.specs.Prelude.{ℕ, List, [], ◌∷◌, ◌++◌, Ok, Err, codes, decimal}
 use Rattle.ct_mono.specs.declared.fault.Kind.{Kind}
 use Rattle.ct_mono.specs.declared.fault.Kind.TheVariants.{Degree, Terms, Number, Size}
-use Rattle.ct_algebra.specs.Actions.{Still}
 use Rattle.ct_ore.specs.Naming.{Naming}
-use Rattle.ct_ore.specs.declared.algebra.Role.TheVariants.{Param}
+use Rattle.ct_answer.specs.Text.{naming_at}
 use Rattle.ct_cert.specs.declared.place.Place.{Place}
 use Rattle.ct_cert.specs.declared.place.Place.TheVariants.{Found, Telescoper, Scale, Denominator, Part, Identity}
 use Rattle.ct_cert.specs.Testing.{Tested, Fails, Overflows}
@@ -33,7 +32,7 @@ kind_text Size = codes "size"
 
 -- the text of a name; of none past the last one
 abbrev pub name_text : List Naming → ℕ → List ℕ
-name_text names i = (get_or names i (record { text = []; action = Still; role = Param })).text
+name_text names i = (naming_at names i).text
 
 unfoldable pub place_text : List Naming → Place → List ℕ
 place_text names Found = codes "found"

@@ -8,7 +8,8 @@ use Rattle.std.specs.Prelude.{ℕ, Bool, ◌||◌, not, List, if◌then◌else�
 use Rattle.ct_io.specs.declared.command.Command.{Command}
 use Rattle.ct_io.specs.declared.command.Command.TheVariants.{Check, Reduce}
 use Rattle.ct_problem.specs.declared.fault.BadInput.{BadInput}
-use Rattle.ct_problem.specs.ReadProblem.{Reading, problem_of, is_empty, is_used, most_bytes}
+use Rattle.ct_problem.specs.Limits.{most_bytes}
+use Rattle.ct_problem.specs.ReadProblem.{Reading, problem_of, is_empty, is_used}
 use Rattle.ct_run.specs.Checking.{checked_text, IsShown}
 use Rattle.ct_run.specs.Lines.{bad_input, not_yet}
 use Rattle.ct_run.specs.Output.{Output}

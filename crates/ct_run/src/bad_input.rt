@@ -1,5 +1,5 @@
 // The line of a text's first fault.
-ghost use Rattle.std.specs.Prelude.{◌≡◌, ◌++◌, codes, decimal, IfOk, OnOk};
+ghost use Rattle.std.specs.Prelude.{◌≡◌, IfOk};
 ghost use Rattle.ct_run.specs.Lines as spec;
 ghost use Rattle.ct_run.specs.Output.{output_of};
 

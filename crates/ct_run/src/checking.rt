@@ -3,7 +3,6 @@ ghost use Rattle.std.specs.Prelude.{◌≡◌, ◌≤◌, length, is_none, IfOk}
 ghost use Rattle.std.specs.List.{list_all};
 ghost use Rattle.ct_cert.specs.Certificates.{IsAnswerFor};
 ghost use Rattle.ct_ore.specs.Answers.{certificate_of};
-ghost use Rattle.ct_ore.specs.Naming.{summed_of};
 ghost use Rattle.ct_problem.specs.ReadProblem.{reading_of};
 ghost use Rattle.ct_problem.specs.WellFormed.{IsReportOn};
 ghost use Rattle.ct_run.specs.Checking as spec;
@@ -77,7 +76,7 @@ fn is_single(range: Option<Range>) -> bool
 /// The same for a text in the first form.
 #[tactic(auto, unfolding(crate::specs::Checking::checked_form))]
 fn answer_form(alloc: Global, problem: &Problem, report: &Report) -> Result<Output, NoMemory>
-    requires { IsReportOn (length (summed_of problem.now.algebra)) (length (spec.listed problem.now.gens)) report.now }
+    requires { IsReportOn problem.now.algebra (length (spec.listed problem.now.gens)) report.now }
     ensures value { IfOk result (λ output. output_of output ≡ spec.checked_form (reading_of problem.now) report.now) }
 {
     let generators = match checked_setup(alloc, problem) {

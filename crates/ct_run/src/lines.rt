@@ -5,7 +5,7 @@ ghost use Rattle.ct_run.specs.Output.{output_of};
 
 use crate::output::Output;
 use crate::status::Outcome;
-use ct_cert::{CheckFault, Place, Verdict};
+use ct_cert::Place;
 use ct_io::NoMemory;
 use ct_mono::Kind;
 use ct_ore::Algebra;

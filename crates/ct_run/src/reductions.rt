@@ -1,5 +1,5 @@
 // The left reductions of several targets.
-ghost use Rattle.std.specs.Prelude.{◌≡◌, [], map, Err, Ok};
+ghost use Rattle.std.specs.Prelude.{[], map, Err, Ok};
 ghost use Rattle.ct_ore.specs.Naming.{actions_of};
 ghost use Rattle.ct_reduce.specs.Views.{reduction_of};
 ghost use Rattle.ct_run.specs.Reducing as spec;

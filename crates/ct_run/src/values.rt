@@ -25,7 +25,7 @@ pub(crate) struct Fraction {
 
 /// The values of expressions, in order.
 pub(crate) fn values(alloc: Global, algebra: &Algebra, exprs: &[Expr]) -> Result<Vec<Op>, Fault>
-    requires { Each IsOperator exprs.now }
+    requires { Each (IsOperator algebra.now) exprs.now }
     ensures { AnswersBy (λ v. v.items) (setup.checked_values (actions_of algebra.now) [] exprs.now) result }
 {
     let mut done = Vec::new(alloc);
@@ -47,7 +47,7 @@ pub(crate) fn certificate(
     algebra: &Algebra,
     report: &Report,
 ) -> Result<Answer, Fault>
-    requires { (summed : ℕ) × (generators : ℕ) × IsReportOn summed generators report.now }
+    requires { (generators : ℕ) × IsReportOn algebra.now generators report.now }
     ensures answers { AnswersBy certificate_of (spec.checked_certificate algebra.now report.now) result }
     ensures known { IfOk result (λ answer. All (λ p. p.name < length algebra.now) answer.parts.items) }
 {
@@ -67,7 +67,7 @@ pub(crate) fn certificate(
 }
 
 fn polynomials(alloc: Global, algebra: &Algebra, exprs: &[Expr]) -> Result<Vec<Poly>, Fault>
-    requires { Each IsPolynomial exprs.now }
+    requires { Each (IsPolynomial algebra.now) exprs.now }
     ensures { AnswersBy (λ v. v.items) (spec.checked_polynomials (actions_of algebra.now) [] exprs.now) result }
 {
     let mut done = Vec::new(alloc);
@@ -87,7 +87,7 @@ fn quotients(
     algebra: &Algebra,
     quotients: &[Quotient],
 ) -> Result<Vec<Fraction>, Fault>
-    requires { Each IsQuotient quotients.now }
+    requires { Each (IsQuotient algebra.now) quotients.now }
     ensures { AnswersBy (λ v. map pair_of v.items) (spec.checked_quotients (actions_of algebra.now) [] quotients.now) result }
 {
     let mut done = Vec::new(alloc);

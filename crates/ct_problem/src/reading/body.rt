@@ -1,5 +1,5 @@
 // The lines between the first and the last.
-ghost use Rattle.std.specs.Prelude.{◌≡◌, [], length, IfOk};
+ghost use Rattle.std.specs.Prelude.{◌≡◌, length, IfOk};
 ghost use Rattle.ct_problem.specs.Draft.{reading_of_draft};
 ghost use Rattle.ct_problem.specs.Input.{ReadsBy};
 ghost use Rattle.ct_problem.specs.ReadProblem as spec;
@@ -16,6 +16,12 @@ use crate::reading::tokens::Tokens;
 use ct_expr::Expr;
 use sqlite_items::Items;
 use std::alloc::Global;
+
+/// What an `order` line may say.
+const HIGHEST_ORDER: u16 = 8;
+
+/// What a `degree` line may say.
+const HIGHEST_DEGREE: u16 = 12;
 
 /// A problem but for its end.
 #[derive(Drop)]
@@ -58,8 +64,8 @@ pub fn body(
     let gens = generators(alloc, &names, tokens)?;
     let dens = den_lines(alloc, &names, tokens)?;
     let targets = value_lines(alloc, &names, tokens, b"target")?;
-    let orders = range_line(tokens, b"order", 8)?;
-    let degrees = range_line(tokens, b"degree", 12)?;
+    let orders = range_line(tokens, b"order", HIGHEST_ORDER)?;
+    let degrees = range_line(tokens, b"degree", HIGHEST_DEGREE)?;
     Ok(Draft {
         names,
         lets,

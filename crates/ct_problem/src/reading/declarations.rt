@@ -17,7 +17,7 @@ use std::alloc::Global;
 /// How many names there may be.
 const MOST_NAMES: usize = 6;
 
-/// The bytes of a name.
+/// The most bytes of a name.
 const LONGEST_NAME: usize = 32;
 
 /// How many names may have operators.

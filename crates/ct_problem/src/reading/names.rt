@@ -113,13 +113,6 @@ impl Names {
         self.variables.as_slice()
     }
 
-    /// How many `let` lines there are.
-    pub fn let_count(&self) -> usize
-        ensures { result ≡ length self.now.lets }
-    {
-        self.lets.len()
-    }
-
     /// The declared name with a number.
     pub fn variable(&self, at: usize) -> &NameInfo
         requires { at < length self.now.variables }

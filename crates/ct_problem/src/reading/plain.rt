@@ -1,10 +1,9 @@
-// The bytes of a report in the plain form.
+// The bytes of a report in the first form.
 ghost use Rattle.std.specs.Prelude.{◌≡◌, Some};
 ghost use Rattle.ct_problem.specs.Plain as spec;
 ghost use Rattle.ct_problem.specs.declared.reading.plain.Line.TheVariants.{Ended};
 
-/// The most bytes of a text.
-const MOST_BYTES: usize = 1 << 26;
+use crate::reading::MOST_BYTES;
 
 /// What stands in a line so far: nothing, spaces, or more.
 #[derive(Clone, Copy)]
@@ -14,7 +13,7 @@ enum Line {
     Written,
 }
 
-/// Whether the bytes may stand in a report of the plain form.
+/// Whether the bytes may stand in a report of the first form.
 #[tactic(auto, unfolding(crate::specs::Plain::is_plain))]
 pub fn is_plain(text: &[u8]) -> bool
     ensures { result ≡ spec.is_plain text.now }

@@ -9,7 +9,6 @@ use crate::reading::lines::{no_more, value_lines};
 use crate::reading::names::Names;
 use crate::reading::numbers::{coming_number, number};
 use crate::reading::tokens::Tokens;
-use sqlite_items::Items;
 use std::alloc::Global;
 
 /// The `gen` lines, or the `use` line in their place.

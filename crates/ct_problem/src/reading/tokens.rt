@@ -5,7 +5,6 @@ ghost use Rattle.ct_problem.specs.Input as spec;
 ghost use Rattle.ct_problem.specs.Input.{Reads};
 ghost use Rattle.ct_problem.specs.ReadProblem.{end_in};
 ghost use Rattle.ct_problem.specs.declared.fault.ReadFault.TheVariants.{Bad};
-ghost use Rattle.ct_token.specs.Lexical.{is_line_end};
 
 use crate::fault::{BadInput, BadKind, ReadFault};
 use ct_token::{Symbol, Token};
@@ -91,13 +90,6 @@ impl<'a> Tokens<'a> {
             [first, ..] => first.to,
             [] => 0,
         }
-    }
-
-    /// How long the text is.
-    pub fn text_len(&self) -> usize
-        ensures { result ≡ length self.now.text }
-    {
-        self.text.len()
     }
 
     /// A fault at the next token.

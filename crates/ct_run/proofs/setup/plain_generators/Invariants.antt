@@ -6,7 +6,7 @@ use Rattle.ct_run.proofs.setup.plain_generators.Given as goal
 
 -- what is done and what is left
 abbrev pub invariant-valuing : goal.invariant-valuing
-invariant-valuing l = (plain_generators (actions_of l.algebra) [] l.exprs ≡ plain_generators (actions_of l.algebra) l.done.items l.rest) × Each IsOperator l.rest
+invariant-valuing l = (plain_generators (actions_of l.algebra) [] l.exprs ≡ plain_generators (actions_of l.algebra) l.done.items l.rest) × Each (IsOperator l.algebra) l.rest
 
 abbrev pub decreases-valuing : goal.decreases-valuing
 decreases-valuing l = length l.rest

@@ -8,7 +8,7 @@ use Rattle.ct_run.proofs.values.quotients.Given as goal
 -- what is done and what is left
 abbrev pub invariant-valuing : goal.invariant-valuing
 invariant-valuing l =
-    (checked_quotients (actions_of l.algebra) [] l.fn.quotients ≡ checked_quotients (actions_of l.algebra) (map pair_of l.done.items) l.rest) × Each IsQuotient l.rest
+    (checked_quotients (actions_of l.algebra) [] l.fn.quotients ≡ checked_quotients (actions_of l.algebra) (map pair_of l.done.items) l.rest) × Each (IsQuotient l.algebra) l.rest
 
 abbrev pub decreases-valuing : goal.decreases-valuing
 decreases-valuing l = length l.rest
