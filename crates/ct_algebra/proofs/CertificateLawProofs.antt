@@ -1,16 +1,23 @@
--- The proof of specs/CertificateLaws: the symbol passes d by the commutation rule, and what δ(d) leaves cancels.
-use Rattle.std.specs.Prelude.{◌≡◌}
+-- The proofs of specs/CertificateLaws: main lemmas `difference_cleared` and `certificate_telescopes`. The symbol passes d by
+-- the commutation rule, and what δ(d) leaves cancels; so H·E makes h times a difference. The combination of the cofactors
+-- makes nothing of a vector that the generators kill, and h cancels.
+use Rattle.std.specs.Prelude.{◌≡◌, ◌≢◌, refl, List, [], ◌∷◌, map}
+use Rattle.std.specs.List.{All}
 use Rattle.std.proofs.Common.{sym, ◌∙◌, ap, ap₂}
+use Rattle.std.proofs.lemmas.List.Elements.{All-head, All-tail}
 use Rattle.ct_algebra.specs.Ring.{Ring}
 use Rattle.ct_algebra.specs.Ore.{Ore, Module}
 use Rattle.ct_algebra.specs.Names.{Name}
-use Rattle.ct_algebra.specs.Polynomial.{Polynomial, polys, times}
-use Rattle.ct_algebra.specs.Actions.{Action, Shift, Derive, Still, by_action, sigma, delta, sigma_by, delta_by}
-use Rattle.ct_algebra.specs.Operators.{Operator, sum_of_operators, negative, multiple, symbol_before}
-use Rattle.ct_algebra.specs.Certificate.{difference_numerator}
-use Rattle.ct_algebra.specs.CertificateLaws.{DifferenceIsCleared}
-use Rattle.ct_algebra.proofs.ProductRule.{operator_module, symbol_before-multiple}
-use Rattle.ct_algebra.proofs.ModuleLaws.{scale-zero_value, scale-neg, scale-scale}
+use Rattle.ct_algebra.specs.Polynomial.{Polynomial, polys, polys_domain, times, times_is}
+use Rattle.ct_algebra.specs.Actions.{Action, Shift, Derive, Still, by_action, polynomials, sigma, delta, sigma_by, delta_by}
+use Rattle.ct_algebra.specs.Operators.{Operator, apply, EachKills}
+use Rattle.ct_algebra.specs.Field.{field, coefficients, plain}
+use Rattle.ct_algebra.specs.Restriction.{restricted_cancel, divided, scale-divided}
+use Rattle.ct_algebra.specs.Certificate.{Summand, Certificate, difference_numerator, difference_denominator, differences, Certifies}
+use Rattle.ct_algebra.specs.Telescoping.{difference, AreQuotients, sum_of_differences, Telescopes, over_polynomials}
+use Rattle.ct_algebra.specs.CertificateLaws.{DifferenceIsCleared, CertificateTelescopes}
+use Rattle.ct_algebra.proofs.AppliedOperators.{apply-sum, apply-negative, apply-no_operator, apply-multiple, apply-symbol_before, apply-combination}
+use Rattle.ct_algebra.proofs.ModuleLaws.{scale-zero_value, scale-zero, scale-neg, scale-scale}
 
 -- ---- in any module, for a coefficient d and vectors v and r
 
@@ -19,7 +26,7 @@ module _ {A I V : Type 0} {R : Ring A} {E : Ore I R} (W : Module R E V) where
 
   infixl 60 ◌+◌
   -- of a shift: v is what the symbol makes of r
-  pub cleared_shift :
+  cleared_shift :
       (d e : A) (v r : V) →
       W.scale d (W.scale e v + W.scale R.zero r) + neg (W.scale e (W.scale d r)) ≡ W.scale (R.◌*◌ d e) (v + neg r)
   cleared_shift d e v r =
@@ -29,7 +36,7 @@ module _ {A I V : Type 0} {R : Ring A} {E : Ore I R} (W : Module R E V) where
       ∙ sym (W.scale_sum (R.◌*◌ d e) v (neg r))
 
   -- of a derivation
-  pub cleared_derivation :
+  cleared_derivation :
       (d e : A) (v r : V) →
       W.scale d (W.scale d v + W.scale e r) + neg (W.scale e (W.scale d r)) ≡ W.scale (R.◌*◌ d d) v
   cleared_derivation d e v r =
@@ -37,27 +44,113 @@ module _ {A I V : Type 0} {R : Ring A} {E : Ore I R} (W : Module R E V) where
       ∙ W.group.add_assoc _ _ _ ∙ ap (λ w. W.scale d (W.scale d v) + w) (W.group.add_neg _)
       ∙ W.group.add_zero _ ∙ sym (W.scale_mul d d v)
 
--- ---- for the actions of a name
+-- ---- in a module over the polynomials
 
-cleared_by :
-    (a : Name → Action) (t : Action) (i : Name) (d : Polynomial) (v r : Operator) →
-    sum_of_operators
-    (multiple a d (sum_of_operators (multiple a (sigma_by t i d) v) (multiple a (delta_by t i d) r)))
-    (negative (multiple a (by_action t (sigma_by t i d) (delta_by t i d) polys.zero) (multiple a d r))) ≡
-    multiple a (by_action t (times d (sigma_by t i d)) (times d d) (times d d)) (by_action t (sum_of_operators v (negative r)) v v)
-unfolding sum_of_operators multiple negative times
-cleared_by a Shift i d v r = cleared_shift (operator_module a) d (sigma_by Shift i d) v r
-cleared_by a Derive i d v r = cleared_derivation (operator_module a) d (delta_by Derive i d) v r
-cleared_by a Still i d v r = cleared_derivation (operator_module a) d polys.zero v r
+module _ (a : Name → Action) {V : Type 0} (W : Module polys (polynomials a) V) where
+  open W.group use {◌+◌, neg}
 
-pub difference_cleared : DifferenceIsCleared
-difference_cleared a s r exact =
-    ap (λ q. difference_numerator a (record s { numerator = q })) exact
-    ∙ ap (λ q. sum_of_operators (multiple a d q) (negative (multiple a passed (multiple a d r)))) (symbol_before-multiple a s.name d r)
-    ∙ cleared_by a (a s.name) s.name d (symbol_before a s.name r) r
-  where
-    d : Polynomial
-    d = s.denominator
+  infixl 60 ◌+◌
+  cleared_by :
+      (t : Action) (i : Name) (d : Polynomial) (v r : V) →
+      W.scale d (W.scale (sigma_by t i d) v + W.scale (delta_by t i d) r)
+      + neg (W.scale (by_action t (sigma_by t i d) (delta_by t i d) polys.zero) (W.scale d r)) ≡
+      W.scale (by_action t (times d (sigma_by t i d)) (times d d) (times d d)) (by_action t (v + neg r) v v)
+  unfolding times
+  cleared_by Shift i d v r = cleared_shift W d (sigma_by Shift i d) v r
+  cleared_by Derive i d v r = cleared_derivation W d (delta_by Derive i d) v r
+  cleared_by Still i d v r = cleared_derivation W d polys.zero v r
 
-    passed : Polynomial
-    passed = by_action (a s.name) (sigma a s.name d) (delta a s.name d) polys.zero
+  apply-difference_numerator :
+      (s : Summand) (v w : V) → W.scale s.denominator w ≡ apply a W s.numerator v →
+      apply a W (difference_numerator a s) v ≡ W.scale (difference_denominator a s) (difference a W s.name w)
+  apply-difference_numerator s v w exact =
+      apply-sum a W _ _ v
+      ∙ ap₂ ◌+◌
+      (apply-multiple a W d _ v
+      ∙ ap (W.scale d) (apply-symbol_before a W s.name s.numerator v ∙ ap (W.D s.name) (sym exact) ∙ W.D_scale s.name d w))
+      (apply-negative a W _ v ∙ ap neg (apply-multiple a W passed s.numerator v ∙ ap (W.scale passed) (sym exact)))
+      ∙ cleared_by (a s.name) s.name d (W.D s.name w) w
+    where
+      d : Polynomial
+      d = s.denominator
+
+      passed : Polynomial
+      passed = by_action (a s.name) (sigma a s.name d) (delta a s.name d) polys.zero
+
+  abbrev Divides : Polynomial → Summand → Type 0
+  Divides h s = h ≡ times s.factor (difference_denominator a s)
+
+  -- what the sum of all H·E makes is h times the sum of the differences
+  apply-differences :
+      (h : Polynomial) (v : V) (ss : List Summand) (ws : List V) → All (Divides h) ss →
+      AreQuotients a W v ss ws → apply a W (differences a ss) v ≡ W.scale h (sum_of_differences a W ss ws)
+  apply-differences h v [] [] divides exact = apply-no_operator a W v ∙ sym (scale-zero W h)
+  apply-differences h v [] (w ∷ ws) divides exact = absurd exact
+  apply-differences h v (s ∷ ss) [] divides exact = absurd exact
+  apply-differences h v (s ∷ ss) (w ∷ ws) divides exact =
+      apply-sum a W _ _ v
+      ∙ ap₂ ◌+◌
+      (apply-multiple a W s.factor _ v ∙ ap (W.scale s.factor) (apply-difference_numerator s v w exact.0)
+      ∙ sym (W.scale_mul s.factor (difference_denominator a s) _)
+      ∙ ap (λ c. W.scale c (difference a W s.name w)) (sym (All-head (Divides h) s ss divides ∙ times_is _ _)))
+      (apply-differences h v ss ws (All-tail (Divides h) s ss divides) exact.1)
+      ∙ sym (W.scale_sum h _ _)
+
+pub difference_cleared : {V : Type 0} → DifferenceIsCleared V
+difference_cleared a W s v w exact = apply-difference_numerator a W s v w exact
+
+-- ---- in a module over the field
+
+module _ (a : Name → Action) {V : Type 0} (F : Module field (coefficients a) V) where
+  abbrev W : Module polys (polynomials a) V
+  W = over_polynomials a F
+
+  cancels : (d : Polynomial) → d ≢ polys.zero → (v w : V) → W.scale d v ≡ W.scale d w → v ≡ w
+  cancels = restricted_cancel polys polys_domain (polynomials a) (plain a) F
+
+  abbrev Nonzero : Summand → Type 0
+  Nonzero s = s.denominator ≢ polys.zero
+
+  abbrev quotient : V → Summand → V
+  quotient v s = divided polys polys_domain (polynomials a) (plain a) F s.denominator (apply a W s.numerator v)
+
+  multiple_quotient : (v : V) (s : Summand) → Nonzero s → W.scale s.denominator (quotient v s) ≡ apply a W s.numerator v
+  multiple_quotient v s nonzero = scale-divided polys polys_domain (polynomials a) (plain a) F s.denominator nonzero _
+
+  are_quotients : (v : V) (ss : List Summand) → All Nonzero ss → AreQuotients a W v ss (map (quotient v) ss)
+  are_quotients v [] nonzero = tt
+  are_quotients v (s ∷ ss) nonzero =
+      (multiple_quotient v s (All-head Nonzero s ss nonzero), are_quotients v ss (All-tail Nonzero s ss nonzero))
+
+  quotients_unique :
+      (v : V) (ss : List Summand) (ws us : List V) → All Nonzero ss →
+      AreQuotients a W v ss ws → AreQuotients a W v ss us → ws ≡ us
+  quotients_unique v [] [] [] nonzero first second = refl
+  quotients_unique v [] (w ∷ ws) us nonzero first second = absurd first
+  quotients_unique v [] [] (u ∷ us) nonzero first second = absurd second
+  quotients_unique v (s ∷ ss) [] us nonzero first second = absurd first
+  quotients_unique v (s ∷ ss) (w ∷ ws) [] nonzero first second = absurd second
+  quotients_unique v (s ∷ ss) (w ∷ ws) (u ∷ us) nonzero first second =
+      ap₂ ◌∷◌ (cancels s.denominator (All-head Nonzero s ss nonzero) w u (first.0 ∙ sym second.0))
+      (quotients_unique v ss ws us (All-tail Nonzero s ss nonzero) first.1 second.1)
+
+  telescoped :
+      (summed : List Name) (generators : List Operator) (c : Certificate) (v : V) → EachKills a W generators v →
+      Certifies a summed generators c → Telescopes a W c v
+  telescoped summed generators c v killed shown = record {
+    quotients = map (quotient v) c.summands;
+    cleared = quotients;
+    no_others = λ ws others. quotients_unique v c.summands ws _ shown.denominators_nonzero others quotients;
+    telescopes = cancels c.scale shown.relation.scale_nonzero _ _
+        (sym (apply-multiple a W c.scale c.telescoper v) ∙ ap (λ p. apply a W p v) shown.relation.identity
+        ∙ apply-sum a W _ _ v
+        ∙ ap₂ W.group.◌+◌ (apply-differences a W c.scale v c.summands _ shown.relation.divides quotients)
+        (apply-combination a W c.cofactors generators v killed)
+        ∙ W.group.add_zero _);
+  }
+    where
+      quotients : AreQuotients a W v c.summands (map (quotient v) c.summands)
+      quotients = are_quotients v c.summands shown.denominators_nonzero
+
+pub certificate_telescopes : {V : Type 0} → CertificateTelescopes V
+certificate_telescopes a W summed generators c v killed shown = telescoped a W summed generators c v killed shown

@@ -18,8 +18,9 @@ pub mod Coefficients
 pub mod Fractions
 pub mod Field
 -- what a certificate shows
-pub mod RangeSum
 pub mod Certificate
+pub mod Restriction
+pub mod Telescoping
 -- what the laws say that the functions of src/laws.rt prove
 pub mod MonomialLaws
 pub mod PolynomialLaws
@@ -40,7 +41,7 @@ pub mod OreAlgebra
 pub mod FractionRing
 pub mod Division
 pub mod FractionOre
-pub mod Restriction
+pub mod RangeSum
 -- tools of the proofs
 pub mod RingTactic
 pub mod Laws

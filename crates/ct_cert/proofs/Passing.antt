@@ -1,8 +1,9 @@
 -- What it means that all tests pass: the certificate certifies. Main lemma `passing_certifies`, cited by `check_found`. Each
 -- test's truth value decides its fact (`Deciding`, `Values`, `FreedomSteps`), and the tests pass only where all are true.
-use Rattle.std.specs.Prelude.{◌≡◌, ◌≢◌, refl, ℕ, zero, suc, ◌<◌, Ok, Err, Bool, true, false, ◌&&◌, not, List, [], ◌∷◌, length, get_or, map}
+use Rattle.std.specs.Prelude.{◌≡◌, ◌≢◌, refl, Ok, Err, Bool, true, false, ◌&&◌, not, List, [], ◌∷◌, length, map}
+use Rattle.std.specs.List.{All}
 use Rattle.std.specs.Bool.{Decides}
-use Rattle.std.proofs.Common.{arith}
+use Rattle.std.proofs.lemmas.List.Elements.{All-nil, All-cons}
 use Rattle.std.proofs.lemmas.Bool.{eq-eqb, eqb-true}
 use Rattle.ct_algebra.specs.Terms.{EachTerm}
 use Rattle.ct_algebra.specs.Monomial.{Mono, exp}
@@ -11,7 +12,7 @@ use Rattle.ct_algebra.specs.Polynomial.{Polynomial, polys}
 use Rattle.ct_algebra.specs.Actions.{Action, Still}
 use Rattle.ct_algebra.specs.Operators.{Operator, operator_group, no_operator}
 use Rattle.ct_algebra.specs.FreeOf.{EachName, IsWithout, IsFreeOfAll, OperatorIsFreeOf}
-use Rattle.ct_algebra.specs.Certificate.{Summand, Certificate, summand_at, Certifies}
+use Rattle.ct_algebra.specs.Certificate.{Summand, Certificate, Certifies}
 use Rattle.ct_mono.specs.Checked.{Checked}
 use Rattle.ct_cert.specs.declared.place.Place.{Place}
 use Rattle.ct_cert.specs.declared.place.Support.{Support}
@@ -69,12 +70,15 @@ both_passed (Ok tt) rest u passes = (refl, passes)
 both_passed (Err e) rest u passes = cc
 
 each_passed :
-    (test : Summand → Tested (Unit {0})) (d : Summand) (ss : List Summand) (u : Unit {0}) → for_each test ss ≡ Ok u →
-    (k : ℕ) → k < length ss → test (get_or ss k d) ≡ Ok tt
-each_passed test d [] u passes k small = absurd (omega arith)
-each_passed test d (s ∷ ss) u passes zero small = (both_passed (test s) (for_each test ss) u passes).0
-each_passed test d (s ∷ ss) u passes (suc k) small =
-    each_passed test d ss u (both_passed (test s) (for_each test ss) u passes).1 k (omega arith)
+    (test : Summand → Tested (Unit {0})) (P : Summand → Type 0) → ((s : Summand) → test s ≡ Ok tt → P s) →
+    (ss : List Summand) (u : Unit {0}) → for_each test ss ≡ Ok u → All P ss
+each_passed test P decided [] u passes = All-nil P
+each_passed test P decided (s ∷ ss) u passes =
+    let both = both_passed (test s) (for_each test ss) u passes in
+    All-cons P s ss (decided s both.0) (each_passed test P decided ss u both.1)
+
+nonzero_passed : (p : Place) (c : Polynomial) (u : Unit {0}) → test_of p (Ok (not (polys.is_zero c))) ≡ Ok u → c ≢ polys.zero
+nonzero_passed p c u passes none = not_true _ (passed_value p _ u passes) ((polynomial_zero_decides c).1 none)
 
 module _ (a : Name → Action) (summed : List Name) (generators : List Operator) (due found : Support) (c : Certificate) where
   pub passing_certifies :
@@ -88,17 +92,17 @@ module _ (a : Name → Action) (summed : List Name) (generators : List Operator)
       let four = both_passed (for_each denominator_test c.summands) _ u three.1 in
       let five = both_passed (for_each (part_test a c.scale) c.summands) (identity_test a generators c) u four.1 in
       let telescoper = passed_value _ (not (operator_group.is_zero c.telescoper) && operator_lacks summed c.telescoper) tt two.0 in
-      let scale = passed_value _ (not (polys.is_zero c.scale)) tt three.0 in
       record {
         telescoper_nonzero = λ none. not_true _ (first_pass _ _ telescoper) ((operator_zero_decides c.telescoper).1 none);
         free_of_summed = (operator_lacks-free summed c.telescoper).0 (second_pass _ _ telescoper);
         names = names;
         acts = acts;
         cofactors_fit = fit;
-        denominators_nonzero = λ k small none. not_true _ (passed_value _ (not (polys.is_zero (summand_at c k).denominator)) tt (each_passed denominator_test _ c.summands tt four.0 k small)) ((polynomial_zero_decides (summand_at c k).denominator).1 none);
+        denominators_nonzero = each_passed denominator_test _ (λ s passed. nonzero_passed _ s.denominator tt passed) c.summands tt four.0;
         relation = record {
-          scale_nonzero = λ none. not_true _ scale ((polynomial_zero_decides c.scale).1 none);
-          divides = λ k small. (part_value a c.scale (summand_at c k) true (passed_test _ (checked_part a c.scale (summand_at c k)) tt (each_passed (part_test a c.scale) _ c.summands tt five.0 k small))).0 refl;
+          scale_nonzero = nonzero_passed _ c.scale tt three.0;
+          divides = each_passed (part_test a c.scale) _
+              (λ s passed. (part_value a c.scale s true (passed_test _ (checked_part a c.scale s) tt passed)).0 refl) c.summands tt five.0;
           identity = (identity_value a generators c true (passed_test _ (checked_identity a generators c) u five.1)).0 refl;
         };
       }

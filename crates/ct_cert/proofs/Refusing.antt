@@ -1,14 +1,16 @@
 -- What it means that a test fails: what stands at its place is false. Main lemma `failing_refutes`, cited by `check_found`.
 -- The first test that ends the others made its ending itself, with its own place and a truth value that is false.
-use Rattle.std.specs.Prelude.{◌≡◌, refl, ℕ, suc, ◌<◌, Ok, Err, Bool, true, false, ◌&&◌, not, List, [], ◌∷◌, length, get_or, ◌⊎◌}
+use Rattle.std.specs.Prelude.{◌≡◌, ◌≢◌, refl, ℕ, suc, Ok, Err, Bool, true, false, ◌&&◌, not, List, [], ◌∷◌, ◌⊎◌}
+use Rattle.std.specs.List.{Contains}
 use Rattle.std.specs.Bool.{Decides}
 use Rattle.std.proofs.Common.{sym, ap, subst, inl, inr, arith}
 use Rattle.std.proofs.lemmas.Bool.{eq-eqb}
+use Rattle.std.proofs.lemmas.List.Elements.{All-contains}
 use Rattle.ct_algebra.specs.Names.{Name, place}
-use Rattle.ct_algebra.specs.Polynomial.{polys}
+use Rattle.ct_algebra.specs.Polynomial.{polys, times}
 use Rattle.ct_algebra.specs.Actions.{Action}
 use Rattle.ct_algebra.specs.Operators.{Operator, operator_group, no_operator}
-use Rattle.ct_algebra.specs.Certificate.{Summand, Certificate, summand_at}
+use Rattle.ct_algebra.specs.Certificate.{Summand, Certificate, difference_denominator}
 use Rattle.ct_mono.specs.Checked.{Checked}
 use Rattle.ct_cert.specs.declared.place.Place.{Place}
 use Rattle.ct_cert.specs.declared.place.Place.TheVariants as places
@@ -16,7 +18,7 @@ use Rattle.ct_cert.specs.declared.place.Support.{Support}
 use Rattle.ct_cert.specs.Arithmetic.{checked_part, checked_identity}
 use Rattle.ct_cert.specs.Freedom.{operator_lacks}
 use Rattle.ct_cert.specs.Testing.{Tested, ◌>>=◌, Ending, Fails, test_of}
-use Rattle.ct_cert.specs.Tests.{same_support, found_test, telescoper_test, scale_test, denominator_test, part_test, for_each, identity_test, tests, Holds}
+use Rattle.ct_cert.specs.Tests.{same_support, found_test, telescoper_test, scale_test, denominator_test, part_test, for_each, identity_test, tests, EachNamed, Holds}
 use Rattle.ct_cert.proofs.Deciding.{polynomial_zero_decides, operator_zero_decides}
 use Rattle.ct_cert.proofs.FreedomSteps.{both_pass}
 use Rattle.ct_cert.proofs.Order.{from_telescoper, from_scale, from_denominators, from_factors}
@@ -36,22 +38,21 @@ either_failed : (t rest : Tested (Unit {0})) (e : Ending) → (t >>= (λ _. rest
 either_failed (Ok u) rest e fails = inr fails
 either_failed (Err d) rest e fails = inl fails
 
-record SomeFails (test : Summand → Tested (Unit {0})) (d : Summand) (ss : List Summand) (e : Ending) : Type 0 where
-  pub number : ℕ
-  pub inside : number < length ss
-  pub fails : test (get_or ss number d) ≡ Err e
+record SomeFails (test : Summand → Tested (Unit {0})) (ss : List Summand) (e : Ending) : Type 0 where
+  pub one : Summand
+  pub inside : Contains ss one
+  pub fails : test one ≡ Err e
 
 some_failed :
-    (test : Summand → Tested (Unit {0})) (d : Summand) (ss : List Summand) (e : Ending) → for_each test ss ≡ Err e →
-    SomeFails test d ss e
-some_failed test d [] e fails = cc
-some_failed test d (s ∷ ss) e fails = by (either_failed (test s) (for_each test ss) e fails) (some_failed test d ss e)
+    (test : Summand → Tested (Unit {0})) (ss : List Summand) (e : Ending) → for_each test ss ≡ Err e → SomeFails test ss e
+some_failed test [] e fails = cc
+some_failed test (s ∷ ss) e fails = by (either_failed (test s) (for_each test ss) e fails) (some_failed test ss e)
   where
-    by : (test s ≡ Err e) ⊎ (for_each test ss ≡ Err e) → (for_each test ss ≡ Err e → SomeFails test d ss e) → SomeFails test d (s ∷ ss) e
-    by (inl here) later = record { number = 0; inside = omega arith; fails = here }
+    by : (test s ≡ Err e) ⊎ (for_each test ss ≡ Err e) → (for_each test ss ≡ Err e → SomeFails test ss e) → SomeFails test (s ∷ ss) e
+    by (inl here) later = record { one = s; inside = (0, omega arith, refl); fails = here }
     by (inr there) later =
         let rest = later there in
-        record { number = suc rest.number; inside = omega (arith, rest.inside); fails = rest.fails }
+        record { one = rest.one; inside = (suc rest.inside.0, omega (arith, rest.inside.1), rest.inside.2); fails = rest.fails }
 
 clash : (b : Bool) → b ≡ false → b ≡ true → ⊥
 clash b failed told = cc
@@ -90,29 +91,25 @@ module _ (a : Name → Action) (summed : List Name) (generators : List Operator)
   identity_refuted p fails =
       at p places.Identity fails.here (checked_untrue (checked_identity a generators c) fails.untrue (λ b is. identity_value a generators c b is))
 
-  -- the summand past the end
-  abbrev none : Summand
-  none = summand_at (record c { summands = [] }) 0
+  -- a summand whose test fails at the place refutes what each summand of the name satisfies
+  part_refuted :
+      (p : Place) (at_name : ℕ → Place) (checked : Summand → Checked Bool) (P : Summand → Type 0) →
+      ((s : Summand) → checked s ≡ Ok false → P s → ⊥) → ((j : ℕ) → HoldsAt (at_name j) → EachNamed j c P) →
+      SomeFails (λ s. test_of (at_name (place s.name)) (checked s)) c.summands (Fails p) → HoldsAt p → ⊥
+  part_refuted p at_name checked P refutes asked some =
+      let fails = failed_test p (at_name (place some.one.name)) (checked some.one) some.fails in
+      at p (at_name (place some.one.name)) fails.here (λ holds. refutes some.one fails.untrue
+      (All-contains (λ s. place s.name ≡ place some.one.name → P s) c.summands some.one (asked _ holds) some.inside refl))
 
-  denominators_refuted : (p : Place) → SomeFails denominator_test none c.summands (Fails p) → HoldsAt p → ⊥
-  denominators_refuted p some = by (failed_test p _ _ some.fails)
-    where
-      by :
-          FailsAt p (places.Denominator (place (summand_at c some.number).name)) (Ok (not (polys.is_zero (summand_at c some.number).denominator))) →
-          HoldsAt p → ⊥
-      by fails =
-          let zero = (polynomial_zero_decides (summand_at c some.number).denominator).0 (not_false _ (value_of _ fails.untrue)) in
-          at p (places.Denominator (place (summand_at c some.number).name)) fails.here (λ each. each some.number some.inside refl zero)
+  denominators_refuted : (p : Place) → SomeFails denominator_test c.summands (Fails p) → HoldsAt p → ⊥
+  denominators_refuted p =
+      part_refuted p places.Denominator (λ s. Ok (not (polys.is_zero s.denominator))) (λ s. s.denominator ≢ polys.zero)
+      (λ s untrue nonzero. nonzero ((polynomial_zero_decides s.denominator).0 (not_false _ (value_of _ untrue)))) (λ j holds. holds)
 
-  parts_refuted : (p : Place) → SomeFails (part_test a c.scale) none c.summands (Fails p) → HoldsAt p → ⊥
-  parts_refuted p some = by (failed_test p _ _ some.fails)
-    where
-      by :
-          FailsAt p (places.Part (place (summand_at c some.number).name)) (checked_part a c.scale (summand_at c some.number)) →
-          HoldsAt p → ⊥
-      by fails =
-          at p (places.Part (place (summand_at c some.number).name)) fails.here
-          (λ each. checked_untrue (checked_part a c.scale (summand_at c some.number)) fails.untrue (λ b is. part_value a c.scale (summand_at c some.number) b is) (each some.number some.inside refl))
+  parts_refuted : (p : Place) → SomeFails (part_test a c.scale) c.summands (Fails p) → HoldsAt p → ⊥
+  parts_refuted p =
+      part_refuted p places.Part (checked_part a c.scale) (λ s. c.scale ≡ times s.factor (difference_denominator a s))
+      (λ s untrue. checked_untrue (checked_part a c.scale s) untrue (λ b is. part_value a c.scale s b is)) (λ j holds. holds)
 
   scale_refuted : not (polys.is_zero c.scale) ≡ false → HoldsAt places.Scale → ⊥
   scale_refuted failed nonzero = nonzero ((polynomial_zero_decides c.scale).0 (not_false _ failed))
@@ -125,11 +122,11 @@ module _ (a : Name → Action) (summed : List Name) (generators : List Operator)
       Ends t = t ≡ Err (Fails p)
 
       fifth : Ends (for_each (part_test a c.scale) c.summands) ⊎ Ends (identity_test a generators c) → HoldsAt p → ⊥
-      fifth (inl ended) = parts_refuted p (some_failed (part_test a c.scale) none c.summands (Fails p) ended)
+      fifth (inl ended) = parts_refuted p (some_failed (part_test a c.scale) c.summands (Fails p) ended)
       fifth (inr ended) = identity_refuted p (failed_test p places.Identity (checked_identity a generators c) ended)
 
       fourth : Ends (for_each denominator_test c.summands) ⊎ Ends (from_factors a summed generators due found c) → HoldsAt p → ⊥
-      fourth (inl ended) = denominators_refuted p (some_failed denominator_test none c.summands (Fails p) ended)
+      fourth (inl ended) = denominators_refuted p (some_failed denominator_test c.summands (Fails p) ended)
       fourth (inr ended) = fifth (either_failed (for_each (part_test a c.scale) c.summands) (identity_test a generators c) (Fails p) ended)
 
       third : Ends (scale_test c.scale) ⊎ Ends (from_denominators a summed generators due found c) → HoldsAt p → ⊥

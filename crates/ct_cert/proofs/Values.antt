@@ -1,23 +1,21 @@
 -- The values of checked arithmetic are those of ct_algebra's page of certificates. Main lemmas `part_value`,
 -- `identity_value`: where a checked truth value is there, it decides the equation. Cited by `Passing`.
-use Rattle.std.specs.Prelude.{◌≡◌, ℕ, zero, suc, Ok, Bool, List, [], ◌∷◌, length, get_or}
+use Rattle.std.specs.Prelude.{◌≡◌, Ok, Bool, List, [], ◌∷◌}
 use Rattle.std.specs.Bool.{Decides}
 use Rattle.std.proofs.Common.{sym, ◌∙◌, ap, ap₂}
 use Rattle.ct_algebra.specs.Group.{zero_add}
-use Rattle.ct_algebra.specs.RangeSum.{sum_below}
 use Rattle.ct_algebra.specs.Monomial.{unit}
 use Rattle.ct_algebra.specs.Names.{Name, symbol}
 use Rattle.ct_algebra.specs.Polynomial.{Polynomial, polys, times}
 use Rattle.ct_algebra.specs.Actions.{Action, Shift, Derive, Still, by_action, sigma, sigma_by, delta, delta_by}
 use Rattle.ct_algebra.specs.Operators.{Operator, operator_group, no_operator, sum_of_operators, negative, term_of, product_of, symbol_before, multiple, combination}
-use Rattle.ct_algebra.specs.Certificate.{Summand, Certificate, summand_at, difference_denominator, difference_numerator}
+use Rattle.ct_algebra.specs.Certificate.{Summand, Certificate, difference_denominator, difference_numerator, differences, IsIdentity}
 use Rattle.ct_algebra.proofs.ProductRule.{product_of-polynomial, product_of-symbol}
 use Rattle.ct_mono.specs.Checked.{◌>>=◌, verdict_ok, both_fit}
 use Rattle.ct_poly.specs.Measures.{checked_times, checked_shifted, checked_derived, shifted, product_overflow, shift_overflow, derivative_overflow}
 use Rattle.ct_ore.specs.Measures.{checked_sum, checked_difference, difference_of_operators, checked_product, checked_combination}
 use Rattle.ct_ore.specs.Measures as operators
 use Rattle.ct_cert.specs.Arithmetic.{same_polynomial, same_operator, shift_denominator, checked_denominator, checked_coefficient, checked_numerator, with_difference, checked_differences, checked_part, checked_identity, checked_multiple}
-use Rattle.ct_cert.specs.Tests.{Identity}
 use Rattle.ct_cert.proofs.Deciding.{same_polynomial_decides, same_operator_decides}
 
 times_value : (p q r : Polynomial) → checked_times p q ≡ Ok r → times p q ≡ r
@@ -116,20 +114,16 @@ module _ (a : Name → Action) where
       ap (sum_of_operators sum) (ap (multiple a s.factor) (numerator_value s numerator.value numerator.first) ∙ multiple_value s.factor numerator.value product.value product.first)
       ∙ sum_value sum product.value r product.rest
 
-  sum_first : (n : ℕ) (f : ℕ → Operator) → sum_below operator_group (suc n) f ≡ operator_group.◌+◌ (f 0) (sum_below operator_group n (λ k. f (suc k)))
-  sum_first zero f = operator_group.add_comm operator_group.zero (f 0)
-  sum_first (suc n) f = ap (λ p. operator_group.◌+◌ p (f (suc n))) (sum_first n f) ∙ operator_group.add_assoc (f 0) _ _
-
-  differences_value : (dflt : Summand) (sum : Operator) (ss : List Summand) (r : Operator) → checked_differences a sum ss ≡ Ok r →
-      operator_group.◌+◌ sum (sum_below operator_group (length ss) (λ k. added (get_or ss k dflt))) ≡ r
-  unfolding sum_of_operators
-  differences_value dflt sum [] r fits = operator_group.add_zero sum ∙ cc
-  differences_value dflt sum (s ∷ ss) r fits =
+  differences_value :
+      (sum : Operator) (ss : List Summand) (r : Operator) → checked_differences a sum ss ≡ Ok r →
+      operator_group.◌+◌ sum (differences a ss) ≡ r
+  unfolding sum_of_operators no_operator added
+  differences_value sum [] r fits = operator_group.add_zero sum ∙ cc
+  differences_value sum (s ∷ ss) r fits =
       let more = both_fit (with_difference a sum s) (λ more. checked_differences a more ss) r fits in
-      ap (operator_group.◌+◌ sum) (sum_first (length ss) (λ k. added (get_or (s ∷ ss) k dflt)))
-      ∙ sym (operator_group.add_assoc sum (added s) _)
-      ∙ ap (λ p. operator_group.◌+◌ p (sum_below operator_group (length ss) (λ k. added (get_or ss k dflt)))) (with_difference_value sum s more.value more.first)
-      ∙ differences_value dflt more.value ss r more.rest
+      sym (operator_group.add_assoc sum (added s) (differences a ss))
+      ∙ ap (λ p. operator_group.◌+◌ p (differences a ss)) (with_difference_value sum s more.value more.first)
+      ∙ differences_value more.value ss r more.rest
 
   combination_value : (sum : Operator) (cs gs : List Operator) (r : Operator) → checked_combination a sum cs gs ≡ Ok r →
       sum_of_operators sum (combination a cs gs) ≡ r
@@ -145,14 +139,14 @@ module _ (a : Name → Action) where
 
   pub identity_value :
       (generators : List Operator) (c : Certificate) (b : Bool) → checked_identity a generators c ≡ Ok b →
-      Decides b (Identity a generators c)
-  unfolding checked_identity sum_of_operators added no_operator
+      Decides b (IsIdentity a generators c)
+  unfolding checked_identity sum_of_operators no_operator
   identity_value generators c b fits =
       let left = both_fit (checked_multiple a c.scale c.telescoper) (λ l. checked_differences a no_operator c.summands >>= (λ d. checked_combination a d c.cofactors generators >>= (λ r. Ok (same_operator l r)))) b fits in
       let differences = both_fit (checked_differences a no_operator c.summands) (λ d. checked_combination a d c.cofactors generators >>= (λ r. Ok (same_operator left.value r))) b left.rest in
       let right = both_fit (checked_combination a differences.value c.cofactors generators) (λ r. Ok (same_operator left.value r)) b differences.rest in
       let first : multiple a c.scale c.telescoper ≡ left.value = multiple_value c.scale c.telescoper left.value left.first in
-      let summed : operator_group.◌+◌ operator_group.zero (sum_below operator_group (length c.summands) (λ k. added (summand_at c k))) ≡ differences.value = differences_value _ no_operator c.summands differences.value differences.first in
+      let summed = differences_value no_operator c.summands differences.value differences.first in
       let second = ap (λ p. operator_group.◌+◌ p (combination a c.cofactors generators)) (sym (zero_add operator_group _) ∙ summed) ∙ combination_value differences.value c.cofactors generators right.value right.first in
       let is : same_operator left.value right.value ≡ b = cc (right.rest) in
       let decides = same_operator_decides left.value right.value in

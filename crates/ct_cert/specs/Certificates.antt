@@ -4,11 +4,10 @@
 --     IsAnswerFor                        a part for each summed name in order, and a cofactor for each generator
 use Rattle.std.specs.Prelude.{◌≡◌, ◌≢◌, ◌<◌, ◌≤◌, List, map, length}
 use Rattle.std.specs.List.{All}
-use Rattle.ct_algebra.specs.Names.{Name, name_with}
+use Rattle.ct_algebra.specs.Names.{Name}
 use Rattle.ct_algebra.specs.Actions.{Still}
 use Rattle.ct_algebra.specs.Operators.{Operator}
 use Rattle.ct_algebra.specs.FreeOf.{EachName}
-use Rattle.ct_algebra.specs.Certificate.{Summand, Certificate}
 use Rattle.ct_ore.specs.Naming.{Naming, actions_of, summed_of}
 use Rattle.ct_ore.specs.declared.answer.Part.{Part}
 use Rattle.ct_ore.specs.declared.answer.Answer.{Answer}

@@ -4,17 +4,17 @@
 --     denominator_test, part_test      d of a summand is not zero;  its H·N is h
 --     identity_test                    h·P is the sum of all H·E and of the cofactors' products
 --     tests                            all of them: each denominator before each part, in the order of the summands
---     Identity                         the equation that the last test decides
+--     EachNamed j c P                  P holds of each summand whose name has the number j
 --     Holds                            what the test of a place asks, as a fact
 -- Cited by `check_found`.
-use Rattle.std.specs.Prelude.{◌≡◌, ◌≢◌, ℕ, ◌<◌, length, Bool, ◌&&◌, not, eqb, Ok, List, [], ◌∷◌}
+use Rattle.std.specs.Prelude.{◌≡◌, ◌≢◌, ℕ, Bool, ◌&&◌, not, eqb, Ok, List, [], ◌∷◌}
+use Rattle.std.specs.List.{All}
 use Rattle.ct_algebra.specs.Names.{Name, place}
 use Rattle.ct_algebra.specs.Polynomial.{Polynomial, polys, times}
 use Rattle.ct_algebra.specs.Actions.{Action}
-use Rattle.ct_algebra.specs.Operators.{Operator, operator_group, no_operator, sum_of_operators, multiple, combination}
-use Rattle.ct_algebra.specs.RangeSum.{sum_below}
+use Rattle.ct_algebra.specs.Operators.{Operator, operator_group, no_operator}
 use Rattle.ct_algebra.specs.FreeOf.{OperatorIsFreeOf}
-use Rattle.ct_algebra.specs.Certificate.{Summand, Certificate, summand_at, difference_denominator, difference_numerator}
+use Rattle.ct_algebra.specs.Certificate.{Summand, Certificate, difference_denominator, IsIdentity}
 use Rattle.ct_cert.specs.declared.place.Place.TheVariants.{Found, Telescoper, Scale, Denominator, Part}
 use Rattle.ct_cert.specs.declared.place.Place.TheVariants as places
 use Rattle.ct_cert.specs.declared.place.Place.{Place}
@@ -47,6 +47,10 @@ for_each test (s ∷ ss) = do
   _ ← test s
   for_each test ss
 
+-- a fact about each summand whose name has the number j
+abbrev pub EachNamed : ℕ → Certificate → (Summand → Type 0) → Type 0
+EachNamed j c P = All (λ s. place s.name ≡ j → P s) c.summands
+
 module _ (a : Name → Action) where
   abbrev pub part_test : Polynomial → Summand → Tested (Unit {0})
   part_test h s = test_of (Part (place s.name)) (checked_part a h s)
@@ -65,21 +69,10 @@ module _ (a : Name → Action) where
 
   -- ---- what the tests ask
 
-  abbrev pub Identity : List Operator → Certificate → Type 0
-  Identity generators c =
-      multiple a c.scale c.telescoper ≡
-      sum_of_operators
-      (sum_below operator_group (length c.summands) (λ k. multiple a (summand_at c k).factor (difference_numerator a (summand_at c k))))
-      (combination a c.cofactors generators)
-
-  -- a fact about each summand whose name has the number j
-  abbrev pub EachNamed : ℕ → Certificate → (Summand → Type 0) → Type 0
-  EachNamed j c P = (k : ℕ) → k < length c.summands → place (summand_at c k).name ≡ j → P (summand_at c k)
-
   abbrev pub Holds : List Name → List Operator → Support → Support → Certificate → Place → Type 0
   Holds summed generators due found c Found = found ≡ due
   Holds summed generators due found c Telescoper = (c.telescoper ≢ no_operator) × OperatorIsFreeOf summed c.telescoper
   Holds summed generators due found c Scale = c.scale ≢ polys.zero
   Holds summed generators due found c (Denominator j) = EachNamed j c (λ s. s.denominator ≢ polys.zero)
   Holds summed generators due found c (Part j) = EachNamed j c (λ s. c.scale ≡ times s.factor (difference_denominator a s))
-  Holds summed generators due found c places.Identity = Identity generators c
+  Holds summed generators due found c places.Identity = IsIdentity a generators c
