@@ -1,18 +1,20 @@
 -- The proofs of specs/OperatorLaws: the laws of finite sums and of the product, read at operators, and what operators
 -- make of the module of polynomials.
 use Rattle.std.specs.Prelude.{◌≡◌, refl, [], ◌∷◌}
-use Rattle.std.proofs.Common.{sym, ◌∙◌, ap}
+use Rattle.std.proofs.Common.{sym, ◌∙◌, ap, ap₂}
 use Rattle.ct_algebra.specs.Sums.{at, same_sum, at-⊕, at-none, at-negated, at-sum_of}
-use Rattle.ct_algebra.specs.Monomial.{monomials, unit}
+use Rattle.ct_algebra.specs.Monomial.{monomials, unit, ·-unit}
 use Rattle.ct_algebra.specs.Names.{Name, symbol, power_unit, power-symbol}
 use Rattle.ct_algebra.specs.Polynomial.{Polynomial, polys, plus, times}
-use Rattle.ct_algebra.specs.Actions.{Action, sigma_by, delta_by}
-use Rattle.ct_algebra.specs.Operators.{operator_group, operator_of, term_of, no_operator, sum_of_operators, negative, product_of_assoc, product_of-sum, product_of-sum_left, apply-product_of}
+use Rattle.ct_algebra.specs.Substitution.{name}
+use Rattle.ct_algebra.specs.Actions.{Action, sigma, delta, sigma_by, delta_by}
+use Rattle.ct_algebra.specs.Operators.{operator_group, operator_of, term_of, no_operator, sum_of_operators, negative, product_of, product_of_assoc, product_of-sum, product_of-sum_left, apply-product_of}
 use Rattle.ct_algebra.specs.OnPolynomials.{on_polynomials, symbol_by, by_symbol, made_of}
-use Rattle.ct_algebra.specs.OperatorLaws.{OperatorsAreAGroup, OperatorsAreFiniteMaps, OperatorsAreSumsOfTerms, ProductFollowsRule, ProductHasUnit, ProductDistributes, ProductIsAssociative, ProductActsOnPolynomials}
+use Rattle.ct_algebra.specs.OperatorLaws.{OperatorsAreAGroup, OperatorsAreFiniteMaps, OperatorsAreSumsOfTerms, ProductFollowsRule, ShiftPassesItsName, DerivationPassesItsName, ProductHasUnit, ProductDistributes, ProductIsAssociative, ProductActsOnPolynomials}
 use Rattle.ct_algebra.proofs.AppliedOperators.{apply-sum, apply-term_of}
-use Rattle.ct_algebra.proofs.OperatorTerms.{at-term_of, pick-same, pick-other, at-multiple}
-use Rattle.ct_algebra.proofs.ProductRule.{product_of-polynomial, product_of-symbol, symbol_before-term_of, one-product_of, product_of-one}
+use Rattle.ct_algebra.proofs.OperatorTerms.{at-term_of, pick-same, pick-other, at-multiple, term_of-zero}
+use Rattle.ct_algebra.proofs.ProductRule.{product_of-polynomial, product_of-symbol, product_of-split, symbol_before-term_of, one-product_of, product_of-one}
+use Rattle.ct_algebra.proofs.SymbolLawProofs.{shifts, derivations}
 use Rattle.ct_algebra.proofs.TermProducts.{sum_of-append, sum_of-one, sum_of-none}
 
 pub group : OperatorsAreAGroup
@@ -55,6 +57,29 @@ follows_rule = record {
   symbols_before = product_of-symbol;
   passes = symbol_before-term_of;
 }
+
+-- a symbol before a coefficient
+symbol_passes :
+    (a : Name → Action) (i : Name) (c : Polynomial) →
+    product_of a (term_of (symbol i) polys.one) (term_of unit c) ≡
+    sum_of_operators (product_of a (term_of unit (sigma a i c)) (term_of (symbol i) polys.one)) (term_of unit (delta a i c))
+symbol_passes a i c =
+    product_of-symbol a i _ ∙ symbol_before-term_of a i unit c
+    ∙ ap (λ p. sum_of_operators p (term_of unit (delta a i c)))
+    (ap (λ m. term_of m (sigma a i c)) (·-unit (symbol i)) ∙ sym (product_of-split a (symbol i) (sigma a i c)))
+
+pub shift_passes_its_name : ShiftPassesItsName
+shift_passes_its_name a i acts =
+    symbol_passes a i (name i)
+    ∙ ap₂ (λ c d. sum_of_operators (product_of a (term_of unit c) (term_of (symbol i) polys.one)) (term_of unit d))
+    (shifts.itself a i acts) (shifts.no_delta a i (name i) acts)
+    ∙ ap (sum_of_operators _) (term_of-zero unit) ∙ group.sum_with_none _
+
+pub derivation_passes_its_name : DerivationPassesItsName
+derivation_passes_its_name a i acts =
+    symbol_passes a i (name i)
+    ∙ ap₂ (λ c d. sum_of_operators (product_of a (term_of unit c) (term_of (symbol i) polys.one)) (term_of unit d))
+    (derivations.no_sigma a i (name i) acts) (derivations.itself a i acts)
 
 pub has_unit : ProductHasUnit
 has_unit = record { before = one-product_of; behind = product_of-one }

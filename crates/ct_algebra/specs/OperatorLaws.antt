@@ -3,15 +3,18 @@
 --     OperatorsAreFiniteMaps        equal coefficients are equal operators; coefficients of terms, sums and negatives
 --     OperatorsAreSumsOfTerms       an operator is the sum of its terms
 --     ProductFollowsRule            a polynomial before an operator, a symbol before one, and how a symbol passes a term
+--     ShiftPassesItsName            S∘x = (x + 1)∘S, for the shift of the name x
+--     DerivationPassesItsName       D∘x = x∘D + 1, for the derivation by the name x
 --     ProductHasUnit                the operator one, before and behind
 --     ProductDistributes            over sums on both sides
 --     ProductIsAssociative
 --     ProductActsOnPolynomials      what operators make of polynomials; a product makes what its factors make in turn
 -- The rule, sums on the left and the associative law say all of the product (`product_only` of Determined).
-use Rattle.std.specs.Prelude.{◌≡◌, ◌≢◌, List, [], ◌∷◌}
+use Rattle.std.specs.Prelude.{◌≡◌, ◌≢◌, pos, List, [], ◌∷◌}
 use Rattle.ct_algebra.specs.Monomial.{Mono, ◌·◌, unit}
 use Rattle.ct_algebra.specs.Names.{Name, symbol}
 use Rattle.ct_algebra.specs.Polynomial.{Polynomial, polys, plus, times}
+use Rattle.ct_algebra.specs.Substitution.{name, number}
 use Rattle.ct_algebra.specs.Actions.{Action, Shift, Derive, sigma, delta}
 use Rattle.ct_algebra.specs.Operators.{Operator, polynomial_at, operator_of, term_of, no_operator, sum_of_operators, negative, product_of, symbol_before, multiple}
 use Rattle.ct_algebra.specs.OnPolynomials.{made_of}
@@ -53,6 +56,18 @@ pub record ProductFollowsRule : Type 0 where
       (a : Name → Action) (i : Name) (m : Mono) (c : Polynomial) →
       symbol_before a i (term_of m c) ≡
       sum_of_operators (term_of (symbol i · m) (sigma a i c)) (term_of m (delta a i c))
+
+abbrev pub ShiftPassesItsName : Type 0
+ShiftPassesItsName =
+    (a : Name → Action) (i : Name) → a i ≡ Shift →
+    product_of a (term_of (symbol i) polys.one) (term_of unit (name i)) ≡
+    product_of a (term_of unit (plus (name i) (number (pos 1)))) (term_of (symbol i) polys.one)
+
+abbrev pub DerivationPassesItsName : Type 0
+DerivationPassesItsName =
+    (a : Name → Action) (i : Name) → a i ≡ Derive →
+    product_of a (term_of (symbol i) polys.one) (term_of unit (name i)) ≡
+    sum_of_operators (product_of a (term_of unit (name i)) (term_of (symbol i) polys.one)) (term_of unit polys.one)
 
 pub record ProductHasUnit : Type 0 where
   pub before : (a : Name → Action) (p : Operator) → product_of a (term_of unit polys.one) p ≡ p
