@@ -1,7 +1,8 @@
 -- Greatest common divisors and least common multiples of whole numbers.
 --     greatest_common m c   the greatest number that divides both, for c above 0
 --     least_common m c      the least number that both divide
--- `greatest_common` is std's IsGcd: law `greatest_common_is_gcd`.
+-- `greatest_common` is std's IsGcd, and `least_common` divides whatever both divide: laws `greatest_common_is_gcd` and
+-- `least_common_is_least`.
 use Rattle.std.specs.Prelude.{ℕ, zero, suc, ◌*◌, ◌/◌, ◌%◌, cond, eqb, ◌&&◌}
 
 -- the greatest number up to k that divides both

@@ -1,5 +1,5 @@
-// The laws of values and of common divisors, each a function with no code.
-ghost use Rattle.ct_int.specs.DivisorLaws.{GreatestCommonIsGcd};
+// The laws of values, of common divisors and of common multiples, each a function with no code.
+ghost use Rattle.ct_int.specs.DivisorLaws.{GreatestCommonIsGcd, LeastCommonIsLeast};
 ghost use Rattle.ct_int.specs.RationalLaws.{LowestTermsAreUnique, LowestTermsExist, SumsAreByValue, ProductsAreByValue, DifferenceUndoesSum, QuotientUndoesProduct, OrderIsByValue, OrderIsTotal};
 
 /// Ratios of one value have one lowest terms.
@@ -45,4 +45,9 @@ pub fn order_is_total()
 /// The greatest number that divides two is their greatest common divisor.
 pub fn greatest_common_is_gcd()
     ensures { GreatestCommonIsGcd }
+{}
+
+/// The least common multiple is divided by both numbers, and divides every number that both divide.
+pub fn least_common_is_least()
+    ensures { LeastCommonIsLeast }
 {}

@@ -25,9 +25,9 @@ mod wide;
 pub use divisors::gcd;
 pub use fault::IntFault;
 pub use laws::{
-    difference_undoes_sum, greatest_common_is_gcd, lowest_terms_are_unique, lowest_terms_exist,
-    order_is_by_value, order_is_total, products_are_by_value, quotient_undoes_product,
-    sums_are_by_value,
+    difference_undoes_sum, greatest_common_is_gcd, least_common_is_least, lowest_terms_are_unique,
+    lowest_terms_exist, order_is_by_value, order_is_total, products_are_by_value,
+    quotient_undoes_product, sums_are_by_value,
 };
 pub use rat::Rat;
 
