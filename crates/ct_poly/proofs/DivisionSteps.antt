@@ -1,5 +1,5 @@
 -- One step of a division. Main lemmas `next_is` (which term is found), `rest_value` (what the rest becomes, without its
--- leading term), `rest_below` (all of it is below), `division_falls` and `whole_kept`.
+-- leading term), `rest_below` (all of it is below), `step_falls` (which a law cites), `division_falls` and `whole_kept`.
 -- The leading terms of the rest and of u·f are the same, so both go.
 use Rattle.std.proofs.Common.{◌≡◌, refl, ◌<◌, suc, ℤ, neg_ℤ, pos, zero, negsuc, ◌*ℤ◌, T, true, false, cond, List, [], ◌∷◌, Ok, Some, None, Option, Less, sym, ◌∙◌, ap, ap₂, subst, arith}
 use lib.IntN.{*ℤ_comm}
@@ -19,6 +19,7 @@ use Rattle.ct_mono.specs.Division.{over, over_is}
 use Rattle.ct_mono.specs.Loop.{Falls}
 use Rattle.ct_mono.specs.Rank.{rank-less}
 use Rattle.ct_poly.specs.Division.{Dividing, whole_over, both_over, term_over, leading_over, next_term, step_of, checked_step, leading_rank, dividing_rank}
+use Rattle.ct_poly.specs.DivisionLaws.{EachDivisionStepFalls}
 use Rattle.ct_poly.specs.Measures.{minus}
 use Rattle.ct_poly.proofs.DividedTerms.{divisor_nonzero}
 use Rattle.ct_poly.proofs.ProductLeads.{EachBelow, each_below, row_below}
@@ -133,6 +134,22 @@ stepped f s t u done = verdict_ok _ _ t done
 pub division_falls : (f : Polynomial) → Falls dividing_rank (next_term f) (checked_step f)
 division_falls f s t u found done =
     subst (λ t. dividing_rank t < dividing_rank s) (stepped f s t u done) (rank_falls f s u (next_is f s u found))
+
+leading_below :
+    (m : Mono) (es : List (Mono × ℤ)) (e : Mono × ℤ) → EachBelow m es → leading es ≡ Some e → mono_cmp e.0 m ≡ Less
+leading_below m [] e below first = cc
+leading_below m (d ∷ es) e below first =
+    let same : d ≡ e = cc in subst (λ e. mono_cmp e.0 m ≡ Less) same below.0
+
+pub step_falls : EachDivisionStepFalls
+step_falls f s t u before after found done first next =
+    let n = next_is f s u found in
+    let top : Some n.top ≡ Some before = sym (ap leading n.rest_is) ∙ first in
+    let same : n.top ≡ before = cc in
+    leading_below before.0 t.rest.terms after
+    (subst (λ e. EachBelow e.0 t.rest.terms) same
+    (subst (λ t. EachBelow n.top.0 t.rest.terms) (stepped f s t u done) (rest_below f s u n)))
+    next
 
 -- the dividend is the quotient so far times f, and the rest
 abbrev pub IsWhole : Polynomial → Polynomial → Dividing → Type 0

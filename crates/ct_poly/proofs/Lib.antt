@@ -9,6 +9,7 @@ pub mod Values
 pub mod Derivatives
 pub mod BinomialPowers
 pub mod ShiftValues
+pub mod ShiftLaws
 pub mod Shifts
 pub mod PowerTables
 pub mod Within

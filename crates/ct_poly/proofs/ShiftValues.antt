@@ -23,7 +23,7 @@ shifted-sum i a p q = (shift_ring_hom (steps i a)).sums p q
 pub shifted-zero : (i : Name) (a : ℕ) → shifted i a polys.zero ≡ polys.zero
 shifted-zero i a = none_added polys.group _ (ap (shifted i a) (sym (polys.add_zero polys.zero)) ∙ shifted-sum i a polys.zero polys.zero)
 
-number-zero : number (pos 0) ≡ polys.zero
+pub number-zero : number (pos 0) ≡ polys.zero
 number-zero = number_is (pos 0) ∙ zero_term unit
 
 pub shifted_by_none : (i : Name) (p : Polynomial) → shifted i 0 p ≡ p

@@ -1,5 +1,5 @@
--- Results are within the measures of their operands: main lemmas `sums_within`, `products_within`, `shifts_within` and
--- `derivatives_within`, which the laws cite, and `negatives_within`.
+-- Results are within the measures of their operands: main lemmas `sums_within`, `differences_within`, `products_within`,
+-- `shifts_within` and `derivatives_within`, which the laws cite.
 -- Inserting a term adds at most one term and its absolute value; products and shifts are sums over the terms.
 use Rattle.std.proofs.Common.{◌≡◌, refl, ℕ, zero, suc, ◌+◌, ◌*◌, ◌^◌, ◌≤◌, ◌<◌, ℤ, pos, ◌+ℤ◌, nat_abs, List, [], ◌∷◌, length, sum_by, sym, ◌∙◌, ap, ap₂, subst, arith, Bool, true, false, cond, T, Ordering, Less, Equal, Greater, mul-le-mul_left, mul-le-mul_right}
 use Rattle.std.proofs.Math.Nat.{pow-succ', pow-zero}
@@ -20,7 +20,7 @@ use Rattle.ct_algebra.specs.WholeNumbers.{int_group, int_is_zero}
 use Rattle.ct_algebra.proofs.TermLists.{row_of, times-append}
 use Rattle.ct_algebra.proofs.TermProducts.{sum_of-none}
 use Rattle.ct_poly.specs.declared.term.Term.{Term}
-use Rattle.ct_poly.specs.Measures.{shifted, shift_count, shift_norm, derivative_norm}
+use Rattle.ct_poly.specs.Measures.{minus, shifted, shift_count, shift_norm, derivative_norm}
 use Rattle.ct_poly.specs.Terms.{entries, shift_size, shift_length, IsFalling, poly_of_terms}
 use Rattle.ct_poly.proofs.Derivatives.{derivative, derivative_is}
 use Rattle.ct_poly.proofs.Negatives.{negative, negative_is}
@@ -174,6 +174,13 @@ negatives_within p =
       omega (arith, count_of-terms (made_of negative ts) list.falling negates, list.few, count_of-terms ts falling value),
       omega (arith, norm_of-terms (made_of negative ts) list.falling negates, list.small, norm_of-terms ts falling value),
     )
+
+pub differences_within : (p q : Polynomial) → (count (minus p q) ≤ count p + count q) × (norm (minus p q) ≤ norm p + norm q)
+unfolding minus
+differences_within p q =
+    let sum = sums_within p (polys.neg q) in
+    let negative = negatives_within q in
+    (omega (arith, sum.0, negative.0), omega (arith, sum.1, negative.1))
 
 pub term_within : (m : Mono) (c : ℤ) → (count (term m c) ≤ 1) × (norm (term m c) ≤ nat_abs c)
 unfolding count norm single

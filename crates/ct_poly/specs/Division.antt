@@ -5,10 +5,12 @@
 --     next_term f s           the leading term of the rest over that of f; none where the rest is zero, or it does not divide
 --     step_rules, step_overflow f u s     the kind of the first rule that one more term u breaks, or none
 --     checked_step f u s      the rest loses u times f, and the quotient gains u
+--     division_from f s, division_turn f s      all further steps; the next one and all behind it
 --     checked_quotient p f    all steps: the quotient where nothing is left at the end, or none
 --     quotient p f            the same, where a division that overflows counts as none
 -- Some(q) has q·f = p, and none says that no polynomial times f is p: laws `checked_quotient_is`, `checked_quotient_none`
--- and `quotient_is`, in the lemmas on division. A divisor that is zero divides zero alone.
+-- and `quotient_is`, in the lemmas on division. A divisor that is zero divides zero alone. The steps go on as long as there is
+-- a next term, and what is left falls in each: `DivisionLaws`.
 use Rattle.std.specs.Prelude.{ℕ, suc, zero, ◌+◌, ◌*◌, ℤ, unsigned_abs, cond, ltb, Ok, Err, None, Some, int_div, int_rem}
 use Rattle.std.proofs.Common.{Option}
 use Rattle.ct_algebra.specs.Leading.{leading}
@@ -19,7 +21,7 @@ use Rattle.ct_algebra.specs.WholeNumbers.{int_is_zero}
 use Rattle.ct_mono.specs.Checked.{Checked, verdict, ◌>>=◌}
 use Rattle.ct_mono.specs.Division.{over}
 use Rattle.ct_mono.specs.Limits.{most_terms, largest_norm}
-use Rattle.ct_mono.specs.Loop.{run}
+use Rattle.ct_mono.specs.Loop.{run, turn}
 use Rattle.ct_mono.specs.Rank.{mono_rank}
 use Rattle.ct_mono.specs.declared.fault.Kind.{Kind}
 use Rattle.ct_mono.specs.declared.fault.Kind.TheVariants.{Terms, Number}
@@ -84,6 +86,13 @@ leading_rank (Some e) = suc (mono_rank e.0)
 unfoldable pub dividing_rank : Dividing → ℕ
 dividing_rank s = leading_rank (leading s.rest.terms)
 
+abbrev pub division_from : Polynomial → Dividing → Checked Dividing
+division_from f s = run dividing_rank (next_term f) (checked_step f) s
+
+-- the same with its next turn laid open
+abbrev pub division_turn : Polynomial → Dividing → Checked Dividing
+division_turn f s = turn dividing_rank (next_term f) (checked_step f) (division_from f) s (next_term f s)
+
 -- nothing is done yet
 abbrev pub whole_dividend : Polynomial → Dividing
 whole_dividend p = record { rest = p; quotient = polys.zero }
@@ -93,8 +102,7 @@ unfoldable pub found_quotient : Dividing → Option Polynomial
 found_quotient s = cond (polys.is_zero s.rest) (Some s.quotient) None
 
 unfoldable pub checked_quotient : Polynomial → Polynomial → Checked (Option Polynomial)
-checked_quotient p f =
-    run dividing_rank (next_term f) (checked_step f) (whole_dividend p) >>= (λ s. Ok (found_quotient s))
+checked_quotient p f = division_from f (whole_dividend p) >>= (λ s. Ok (found_quotient s))
 
 -- an overflow is no quotient
 abbrev pub value_or_none : Checked (Option Polynomial) → Option Polynomial

@@ -2,6 +2,7 @@ pub mod Terms
 pub mod Measures
 pub mod Wholes
 pub mod Division
+pub mod DivisionLaws
 pub mod Content
 pub mod ContentLaws
 pub mod Order
@@ -10,3 +11,4 @@ pub mod Powers
 pub mod Accumulation
 pub mod Cells
 pub mod MeasureLaws
+pub mod ShiftLaws

@@ -31,8 +31,9 @@ CheckedValuesAreExact =
 
 -- ---- results are within the measures
 
-abbrev pub SumsAreWithinMeasures : Type 0
-SumsAreWithinMeasures = (p q : Polynomial) → (count (plus p q) ≤ count p + count q) × (norm (plus p q) ≤ norm p + norm q)
+pub record SumsAreWithinMeasures : Type 0 where
+  pub sums : (p q : Polynomial) → (count (plus p q) ≤ count p + count q) × (norm (plus p q) ≤ norm p + norm q)
+  pub differences : (p q : Polynomial) → (count (minus p q) ≤ count p + count q) × (norm (minus p q) ≤ norm p + norm q)
 
 abbrev pub ProductsAreWithinMeasures : Type 0
 ProductsAreWithinMeasures =

@@ -1,11 +1,23 @@
-// The laws of the measures, of contents and of the order, as functions with no code.
+// The laws of shifts, of the measures, of division, of contents and of the order, as functions with no code.
 ghost use Rattle.std.specs.Prelude.{◌≡◌};
 ghost use Rattle.std.specs.Cmp.{IsTotalOrder};
 ghost use Rattle.std.specs.declared.cmp.Ordering.TheVariants.{Equal};
 ghost use Rattle.ct_algebra.specs.Polynomial.{Polynomial};
 ghost use Rattle.ct_poly.specs.ContentLaws.{ContentIsGreatest, CommonMonomialIsGreatest, PartsMakeWhole, PrimitivePartIsPrimitive, PrimitiveFormIsPrimitive};
+ghost use Rattle.ct_poly.specs.DivisionLaws.{EachDivisionStepFalls, DivisionGoesByTurns};
 ghost use Rattle.ct_poly.specs.MeasureLaws.{SumFitsWhereMeasuresDo, ProductFitsWhereMeasuresDo, ProductWithZeroFits, CheckedValuesAreExact, SumsAreWithinMeasures, ProductsAreWithinMeasures, ShiftsAreWithinMeasures, DerivativesAreWithinMeasures};
 ghost use Rattle.ct_poly.specs.Order.{poly_cmp};
+ghost use Rattle.ct_poly.specs.ShiftLaws.{ShiftIsSubstitution, SymbolsShiftAndDerive};
+
+/// A shift replaces its name by itself plus a number, and nothing else does.
+pub fn shift_is_substitution()
+    ensures { ShiftIsSubstitution }
+{}
+
+/// σ of a shift is the shift by 1, and δ of a derivation is the derivative.
+pub fn symbols_shift_and_derive()
+    ensures { SymbolsShiftAndDerive }
+{}
 
 /// A sum fits exactly where counts and norms have room together.
 pub fn sum_fits_where_measures_do()
@@ -27,7 +39,7 @@ pub fn checked_values_are_exact()
     ensures { CheckedValuesAreExact }
 {}
 
-/// A sum has at most the terms and the norm of both together.
+/// A sum and a difference have at most the terms and the norm of both together.
 pub fn sums_are_within_measures()
     ensures { SumsAreWithinMeasures }
 {}
@@ -45,6 +57,16 @@ pub fn shifts_are_within_measures()
 /// A derivative has at most the terms of the polynomial, and the norm that its rule tests.
 pub fn derivatives_are_within_measures()
     ensures { DerivativesAreWithinMeasures }
+{}
+
+/// Each step of a division makes the leading monomial of the rest fall, so a division ends.
+pub fn each_division_step_falls()
+    ensures { EachDivisionStepFalls }
+{}
+
+/// A division is a step and the division from there; or nothing, where there is no next term.
+pub fn division_goes_by_turns()
+    ensures { DivisionGoesByTurns }
 {}
 
 /// The divisors of the content are the common divisors of the coefficients.

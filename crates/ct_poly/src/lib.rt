@@ -5,8 +5,8 @@
 //!
 //! A call that can overflow answers the checked computation of `specs/Measures.antt` or
 //! `specs/Division.antt`: the exact value, or the kind of the first limit that the measures of its operands
-//! could pass. The exact values are those of ct_algebra; contents and the order of polynomials are defined
-//! in `specs/`. Names are given as numbers below six.
+//! could pass. The exact values are those of ct_algebra; `laws.rt` ties shifts and derivatives to its σ and δ.
+//! Contents and the order of polynomials are defined in `specs/`. Names are given as numbers below six.
 #![tactic(auto)]
 
 mod accumulation;
@@ -36,10 +36,11 @@ mod whole;
 pub use ct_mono::{Fault, Kind, LARGEST_DEGREE, LARGEST_NORM, MOST_TERMS, Monomial, NoMemory};
 pub use laws::{
     checked_values_are_exact, common_monomial_is_greatest, content_is_greatest,
-    derivatives_are_within_measures, order_is_total, parts_make_whole, primitive_form_is_primitive,
-    primitive_part_is_primitive, product_fits_where_measures_do, product_with_zero_fits,
-    products_are_within_measures, shifts_are_within_measures, sum_fits_where_measures_do,
-    sums_are_within_measures,
+    derivatives_are_within_measures, division_goes_by_turns, each_division_step_falls,
+    order_is_total, parts_make_whole, primitive_form_is_primitive, primitive_part_is_primitive,
+    product_fits_where_measures_do, product_with_zero_fits, products_are_within_measures,
+    shift_is_substitution, shifts_are_within_measures, sum_fits_where_measures_do,
+    sums_are_within_measures, symbols_shift_and_derive,
 };
 pub use poly::Poly;
 pub use split::Split;
