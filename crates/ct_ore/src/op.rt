@@ -116,8 +116,8 @@ impl Op {
         Ok(Op { terms })
     }
 
-    // Each operator is within the limits.
-    pub(crate) fn within_limits(&self)
+    /// Each operator is within the limits.
+    pub fn within_limits(&self)
         ensures few { term_count self.now ≤ most_terms }
         ensures small { term_norm self.now ≤ largest_norm }
     {
