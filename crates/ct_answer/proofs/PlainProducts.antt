@@ -21,7 +21,7 @@ use Rattle.ct_ore.specs.Measures.{row_of, coefficient_terms, coefficient_degree,
 use Rattle.ct_ore.specs.PairWeights.{over_names, pair_count, pair_weight, derivation_weight, ways_below}
 use Rattle.ct_ore.proofs.OneTerm.{terms-term, some_term, coefficient_terms-one, coefficient_degree-one, order_of-one, total_unit}
 use Rattle.ct_ore.proofs.PairWeightLaws.{derivation_weight-min, power_of_one}
-use Rattle.ct_ore.proofs.ProductRules.{FitsProduct}
+use Rattle.ct_ore.specs.MeasureLaws.{FitsProduct}
 
 -- ---- pairs
 

@@ -20,6 +20,8 @@ pub mod PairMeasureLaws
 pub mod WayPositive
 pub mod ProductBounds
 pub mod ProductRules
+pub mod ProductsWithin
+pub mod CheckedValues
 pub mod PairSums
 pub mod Multiples
 pub mod Expansion

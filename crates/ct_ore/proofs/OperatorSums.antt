@@ -1,14 +1,18 @@
 -- Sums and differences of operators: which rule is broken, what a sum asks of the terms of its operands, and that it keeps
--- within their measures. Main lemmas `can_add`, `merged_is`, `sum_fits`, `negative_terms`, which the methods of `Op` cite.
--- The measures of an operator are added up over its terms, and inserting a term adds at most its own.
-use Rattle.std.proofs.Common.{◌≡◌, refl, ℕ, ◌+◌, ◌≤◌, ◌<◌, ltb, nat_abs, List, [], ◌∷◌, length, sym, ◌∙◌, ap, ap₂, subst, arith, Bool, true, false, cond, T, Ordering, Less, Equal, Greater, Some, None, length-append, lt-ltb, le-ltb, ltb-false}
+-- within their measures. Main lemmas `can_add`, `merged_is`, `sum_fits`, `negative_terms`, which the methods of `Op` cite, and
+-- `sum_within`, `difference_within`, which the laws cite. The measures of an operator are added up over its terms, or are the
+-- greatest of them, and inserting a term adds at most its own.
+use Rattle.std.proofs.Common.{◌≡◌, refl, ℕ, ◌+◌, ◌≤◌, ◌<◌, ltb, max, map, nat_abs, ℤ, neg_ℤ, ◌⊎◌, inl, inr, List, [], ◌∷◌, length, sym, ◌∙◌, ap, ap₂, subst, arith, Bool, true, false, cond, T, Ordering, Less, Equal, Greater, Some, None, length-append, lt-ltb, le-ltb, ltb-false}
+use Rattle.std.proofs.lemmas.Bool.{cases_lt}
 use Rattle.std.proofs.lemmas.List.Sums.{sum_by-cons, sum_by-append}
 use Rattle.ct_algebra.specs.Group.{neg_neg, neg_zero}
-use Rattle.ct_algebra.specs.Terms.{by_order, keep, insert, merged, AllBelow, IsCanonical}
-use Rattle.ct_algebra.specs.Sums.{◌⊕◌, negated}
-use Rattle.ct_algebra.specs.Monomial.{Mono, monomials, mono_cmp}
-use Rattle.ct_algebra.specs.Polynomial.{Polynomial, polys, plus_is, count, norm}
+use Rattle.ct_algebra.specs.Terms.{EachTerm, EachTerm-weaker, by_order, keep, insert, merged, AllBelow, IsCanonical}
+use Rattle.ct_algebra.specs.Sums.{◌⊕◌, EachTerm-⊕, negated}
+use Rattle.ct_algebra.specs.Monomial.{Mono, monomials, mono_cmp, total}
+use Rattle.ct_algebra.specs.Polynomial.{Polynomial, polys, plus, plus_is, count, norm, degree, degree_of, degree_greatest}
+use Rattle.ct_algebra.specs.WholeNumbers.{int_group}
 use Rattle.ct_algebra.specs.Operators.{Operator, operator_of, sum_of_operators, negative}
+use Rattle.ct_algebra.proofs.PolynomialLawProofs.{degrees, finite_maps}
 use Rattle.ct_mono.specs.Limits.{most_terms, largest_norm}
 use Rattle.ct_mono.specs.declared.fault.Kind.TheVariants.{Terms, Number}
 use Rattle.ct_poly.specs.Measures.{broken}
@@ -18,7 +22,8 @@ use Rattle.ct_ore.specs.declared.op.OpTerm.{OpTerm}
 use Rattle.ct_ore.specs.Terms.{op_entries}
 use Rattle.ct_ore.specs.CoefficientTerms.{size_of}
 use Rattle.ct_ore.specs.Lists.{Fits}
-use Rattle.ct_ore.specs.Measures.{row_of, all_terms, coefficient_terms, term_count, term_norm, sum_overflow}
+use Rattle.ct_ore.specs.Measures.{row_of, all_terms, coefficient_terms, term_count, term_norm, greatest, coefficient_degree, order_of, difference_of_operators, sum_overflow}
+use Rattle.ct_ore.specs.MeasureLaws.{IsWithinSum}
 use Rattle.ct_ore.specs.TermSums.{CanAdd, entries_count, entries_norm, negatives}
 use Rattle.ct_ore.specs.declared.coefficient_term.CoefficientTerm.{CoefficientTerm}
 use Rattle.ct_ore.proofs.OperatorMeasures.{length-row, size-row}
@@ -105,43 +110,96 @@ can_add p q room = record {
 
 -- ---- a sum is within the measures of its operands
 
--- with one term more, which has at most this coefficient
-abbrev AddsOne : Polynomial → List (Mono × Polynomial) → List (Mono × Polynomial) → Type 0
-AddsOne c es fs = (entries_count fs ≤ count c + entries_count es) × (entries_norm fs ≤ norm c + entries_norm es)
+abbrev entries_degree : List (Mono × Polynomial) → ℕ
+entries_degree es = greatest (map (λ (e : Mono × Polynomial). degree e.1) es)
 
-keep_within : (m : Mono) (c : Polynomial) (es : List (Mono × Polynomial)) → AddsOne c es (keep monomials polys.group m c es)
+abbrev entries_order : List (Mono × Polynomial) → ℕ
+entries_order es = greatest (map (λ (e : Mono × Polynomial). total e.0) es)
+
+-- with one term more, which has these symbols and at most this coefficient
+record AddsOne (m : Mono) (c : Polynomial) (es fs : List (Mono × Polynomial)) : Type 0 where
+  few : entries_count fs ≤ count c + entries_count es
+  small : entries_norm fs ≤ norm c + entries_norm es
+  degrees : entries_degree fs ≤ max (degree c) (entries_degree es)
+  orders : entries_order fs ≤ max (total m) (entries_order es)
+
+keep_within : (m : Mono) (c : Polynomial) (es : List (Mono × Polynomial)) → AddsOne m c es (keep monomials polys.group m c es)
 keep_within m c es = by (polys.group.is_zero c)
   where
-    by : (b : Bool) → AddsOne c es (cond b es ((m, c) ∷ es))
-    by true = (omega arith, omega arith)
-    by false = (omega (arith, sum_by-cons counted (m, c) es), omega (arith, sum_by-cons normed (m, c) es))
+    by : (b : Bool) → AddsOne m c es (cond b es ((m, c) ∷ es))
+    by true = record { few = omega arith; small = omega arith; degrees = omega arith; orders = omega arith }
+    by false = record {
+      few = omega (arith, sum_by-cons counted (m, c) es);
+      small = omega (arith, sum_by-cons normed (m, c) es);
+      degrees = omega arith;
+      orders = omega arith;
+    }
 
-both_within : (c d : Polynomial) → (count (polys.group.◌+◌ c d) ≤ count c + count d) × (norm (polys.group.◌+◌ c d) ≤ norm c + norm d)
-both_within c d = subst (λ s. (count s ≤ count c + count d) × (norm s ≤ norm c + norm d)) (plus_is c d) (sums_within c d)
+degree-plus : (c d : Polynomial) → degree (plus c d) ≤ max (degree c) (degree d)
+unfolding degree plus
+degree-plus c d =
+    first (max (degree c) (degree d)) (plus c d).terms
+    (EachTerm-⊕ monomials int_group (λ m. total m ≤ max (degree c) (degree d)) c d
+    (EachTerm-weaker (λ m x low. omega (arith, low)) c.terms (degree_greatest c))
+    (EachTerm-weaker (λ m x low. omega (arith, low)) d.terms (degree_greatest d)))
+  where
+    first : (g : ℕ) (es : List (Mono × ℤ)) → EachTerm (λ m x. total m ≤ g) es → degree_of es ≤ g
+    first g [] each = omega arith
+    first g (e ∷ es) each = each.0
 
-insert_within : (m : Mono) (c : Polynomial) (es : List (Mono × Polynomial)) → AddsOne c es (insert monomials polys.group m c es)
+-- a coefficient that is the sum of two
+record BothWithin (c d s : Polynomial) : Type 0 where
+  few : count s ≤ count c + count d
+  small : norm s ≤ norm c + norm d
+  degrees : degree s ≤ max (degree c) (degree d)
+
+both_within : (c d : Polynomial) → BothWithin c d (polys.group.◌+◌ c d)
+both_within c d =
+    let sum = sums_within c d in
+    subst (BothWithin c d) (plus_is c d) (record { few = sum.0; small = sum.1; degrees = degree-plus c d })
+
+abbrev inserted : Mono → Polynomial → List (Mono × Polynomial) → List (Mono × Polynomial)
+inserted m c es = insert monomials polys.group m c es
+
+insert_within : (m : Mono) (c : Polynomial) (es : List (Mono × Polynomial)) → AddsOne m c es (inserted m c es)
 insert_within m c [] = keep_within m c []
 insert_within m c (e ∷ es) = by (mono_cmp m e.0) (insert_within m c es)
   where
-    by : (r : Ordering) → AddsOne c es (insert monomials polys.group m c es)
-        → AddsOne c (e ∷ es) (by_order r (e ∷ insert monomials polys.group m c es) (keep monomials polys.group m (polys.group.◌+◌ c e.1) es) (keep monomials polys.group m c (e ∷ es)))
-    by Less later =
-        (omega (arith, later.0, sum_by-cons counted e es, sum_by-cons counted e (insert monomials polys.group m c es)), omega (arith, later.1, sum_by-cons normed e es, sum_by-cons normed e (insert monomials polys.group m c es)))
+    by : (r : Ordering) → AddsOne m c es (inserted m c es)
+        → AddsOne m c (e ∷ es) (by_order r (e ∷ inserted m c es) (keep monomials polys.group m (polys.group.◌+◌ c e.1) es) (keep monomials polys.group m c (e ∷ es)))
+    by Less later = record {
+      few = omega (arith, later.few, sum_by-cons counted e es, sum_by-cons counted e (inserted m c es));
+      small = omega (arith, later.small, sum_by-cons normed e es, sum_by-cons normed e (inserted m c es));
+      degrees = omega (arith, later.degrees);
+      orders = omega (arith, later.orders);
+    }
     by Equal later =
         let kept = keep_within m (polys.group.◌+◌ c e.1) es in
-        let both = both_within c e.1 in
-        (omega (arith, kept.0, both.0, sum_by-cons counted e es), omega (arith, kept.1, both.1, sum_by-cons normed e es))
+        let both = both_within c e.1 in record {
+          few = omega (arith, kept.few, both.few, sum_by-cons counted e es);
+          small = omega (arith, kept.small, both.small, sum_by-cons normed e es);
+          degrees = omega (arith, kept.degrees, both.degrees);
+          orders = omega (arith, kept.orders);
+        }
     by Greater later = keep_within m c (e ∷ es)
 
-merged_within :
-    (es fs : List (Mono × Polynomial)) →
-    (entries_count (merged monomials polys.group es fs) ≤ entries_count es + entries_count fs)
-    × (entries_norm (merged monomials polys.group es fs) ≤ entries_norm es + entries_norm fs)
-merged_within [] fs = (omega arith, omega arith)
+-- what is said of two lists together
+record IsWithinBoth (es fs gs : List (Mono × Polynomial)) : Type 0 where
+  few : entries_count gs ≤ entries_count es + entries_count fs
+  small : entries_norm gs ≤ entries_norm es + entries_norm fs
+  degrees : entries_degree gs ≤ max (entries_degree es) (entries_degree fs)
+  orders : entries_order gs ≤ max (entries_order es) (entries_order fs)
+
+merged_within : (es fs : List (Mono × Polynomial)) → IsWithinBoth es fs (merged monomials polys.group es fs)
+merged_within [] fs = record { few = omega arith; small = omega arith; degrees = omega arith; orders = omega arith }
 merged_within (e ∷ es) fs =
     let later = merged_within es fs in
-    let one = insert_within e.0 e.1 (merged monomials polys.group es fs) in
-    (omega (arith, one.0, later.0, sum_by-cons counted e es), omega (arith, one.1, later.1, sum_by-cons normed e es))
+    let one = insert_within e.0 e.1 (merged monomials polys.group es fs) in record {
+      few = omega (arith, one.few, later.few, sum_by-cons counted e es);
+      small = omega (arith, one.small, later.small, sum_by-cons normed e es);
+      degrees = omega (arith, one.degrees, later.degrees);
+      orders = omega (arith, one.orders, later.orders);
+    }
 
 sum_terms : (p q : Operator) → (sum_of_operators p q).terms ≡ merged monomials polys.group p.terms q.terms
 unfolding sum_of_operators ◌⊕◌
@@ -153,15 +211,24 @@ pub merged_is :
     op_entries vs ≡ merged monomials polys.group (op_entries ps) (op_entries qs) → op_entries vs ≡ (sum_of_operators p q).terms
 merged_is p q ps qs vs mine its made = made ∙ ap₂ (merged monomials polys.group) mine its ∙ sym (sum_terms p q)
 
-pub sum_fits : (p q : Operator) → HasRoom p q → Fits (coefficient_terms (sum_of_operators p q))
-unfolding coefficient_terms
-sum_fits p q room =
+pub sum_within : (p q : Operator) → IsWithinSum p q (sum_of_operators p q)
+unfolding coefficient_degree order_of
+sum_within p q =
     let within = merged_within p.terms q.terms in
-    let terms : (sum_of_operators p q).terms ≡ merged monomials polys.group p.terms q.terms = sum_terms p q in
-    record {
+    let terms = sum_terms p q in record {
+      count = omega (arith, within.few, ap entries_count terms, term_count-is (sum_of_operators p q), term_count-is p, term_count-is q);
+      norm = omega (arith, within.small, ap entries_norm terms, term_norm-is (sum_of_operators p q), term_norm-is p, term_norm-is q);
+      degree = omega (arith, within.degrees, ap entries_degree terms);
+      order = omega (arith, within.orders, ap entries_order terms);
+    }
+
+pub sum_fits : (p q : Operator) → HasRoom p q → Fits (coefficient_terms (sum_of_operators p q))
+unfolding term_count term_norm
+sum_fits p q room =
+    let within = sum_within p q in record {
       written = coefficients_written (sum_of_operators p q);
-      few = omega (arith, room.few, within.0, ap entries_count terms, count-all_terms (sum_of_operators p q).terms, term_count-is p, term_count-is q);
-      small = omega (arith, room.small, within.1, ap entries_norm terms, norm-all_terms (sum_of_operators p q).terms, term_norm-is p, term_norm-is q);
+      few = omega (arith, room.few, within.count);
+      small = omega (arith, room.small, within.norm);
     }
 
 -- ---- negatives
@@ -190,21 +257,51 @@ pub negative_terms : (p : Operator) → (negative p).terms ≡ negatives p.terms
 unfolding negative negated operator_of
 negative_terms p = terms-operator_of (negatives p.terms) (canonical-negatives p.terms p.canonical)
 
-negatives_within :
-    (es : List (Mono × Polynomial)) →
-    (entries_count (negatives es) ≤ entries_count es) × (entries_norm (negatives es) ≤ entries_norm es)
-negatives_within [] = (omega arith, omega arith)
+degree-neg : (c : Polynomial) → degree (polys.neg c) ≤ degree c
+degree-neg c = by (cases_lt (degree c) (degree (polys.neg c)))
+  where
+    by : (degree c < degree (polys.neg c)) ⊎ (degree (polys.neg c) ≤ degree c) → degree (polys.neg c) ≤ degree c
+    by (inr low) = low
+    by (inl high) =
+        let top = degrees.attained (polys.neg c) (λ none. absurd (omega (arith, high, ap degree none, degrees.of_zero))) in
+        let low = degrees.greatest c top.0 (λ none. top.1 (finite_maps.of_a_negative c top.0 ∙ ap neg_ℤ none)) in
+        omega (arith, low, top.2)
+
+-- the negative of each term has the measures of the term
+record IsWithinOne (es fs : List (Mono × Polynomial)) : Type 0 where
+  few : entries_count fs ≤ entries_count es
+  small : entries_norm fs ≤ entries_norm es
+  degrees : entries_degree fs ≤ entries_degree es
+  orders : entries_order fs ≤ entries_order es
+
+negatives_within : (es : List (Mono × Polynomial)) → IsWithinOne es (negatives es)
+negatives_within [] = record { few = omega arith; small = omega arith; degrees = omega arith; orders = omega arith }
 negatives_within (e ∷ es) =
     let later = negatives_within es in
-    let one = neg_within e.1 in
-    (omega (arith, later.0, one.0, sum_by-cons counted e es, sum_by-cons counted (e.0, polys.neg e.1) (negatives es)), omega (arith, later.1, one.1, sum_by-cons normed e es, sum_by-cons normed (e.0, polys.neg e.1) (negatives es)))
+    let one = neg_within e.1 in record {
+      few = omega (arith, later.few, one.0, sum_by-cons counted e es, sum_by-cons counted (e.0, polys.neg e.1) (negatives es));
+      small = omega (arith, later.small, one.1, sum_by-cons normed e es, sum_by-cons normed (e.0, polys.neg e.1) (negatives es));
+      degrees = omega (arith, later.degrees, degree-neg e.1);
+      orders = omega (arith, later.orders);
+    }
+
+pub difference_within : (p q : Operator) → IsWithinSum p q (difference_of_operators p q)
+unfolding difference_of_operators coefficient_degree order_of
+difference_within p q =
+    let sum = sum_within p (negative q) in
+    let within = negatives_within q.terms in
+    let terms = negative_terms q in record {
+      count = omega (arith, sum.count, within.few, ap entries_count terms, term_count-is q, term_count-is (negative q));
+      norm = omega (arith, sum.norm, within.small, ap entries_norm terms, term_norm-is q, term_norm-is (negative q));
+      degree = omega (arith, sum.degree, within.degrees, ap entries_degree terms);
+      order = omega (arith, sum.order, within.orders, ap entries_order terms);
+    }
 
 -- where a difference has room, so has the sum with the negative
 pub room_negative : (p q : Operator) → HasRoom p q → HasRoom p (negative q)
 room_negative p q room =
     let within = negatives_within q.terms in
-    let terms = negative_terms q in
-    record {
-      few = omega (arith, room.few, within.0, ap entries_count terms, term_count-is q, term_count-is (negative q));
-      small = omega (arith, room.small, within.1, ap entries_norm terms, term_norm-is q, term_norm-is (negative q));
+    let terms = negative_terms q in record {
+      few = omega (arith, room.few, within.few, ap entries_count terms, term_count-is q, term_count-is (negative q));
+      small = omega (arith, room.small, within.small, ap entries_norm terms, term_norm-is q, term_norm-is (negative q));
     }

@@ -1,6 +1,7 @@
 -- A product that no rule refuses: its terms can be made, and what they add up to is the product.
--- Main lemmas `none_fits` (what holds where no rule is broken), `can_multiply`, `answers_value`. Cited by the product of operators.
-use Rattle.std.proofs.Common.{◌≡◌, ◌≢◌, refl, ℕ, ◌+◌, ◌*◌, ◌<◌, ◌≤◌, cond, Bool, true, false, ℤ, nat_abs, List, [], ◌∷◌, map, length, sym, ◌∙◌, ap, ap₂, subst, arith, Some, None, Option, Ok, Err, T, ltb-false, IsTrue}
+-- Main lemmas `none_fits` (what holds where no rule is broken), `can_multiply`, `answers_value`. Cited by the product of operators
+-- and, with `fits_none`, `zero_left_fits` and `zero_right_fits`, by the laws.
+use Rattle.std.proofs.Common.{◌≡◌, ◌≢◌, refl, ℕ, ◌+◌, ◌*◌, ◌<◌, ◌≤◌, cond, Bool, true, false, ℤ, nat_abs, List, [], ◌∷◌, map, length, sym, ◌∙◌, ap, ap₂, subst, arith, Some, None, Option, Ok, Err, T, ltb-false, le-ltb, IsTrue}
 use Rattle.std.proofs.lemmas.List.Sums.{sum_by-cons}
 use Rattle.ct_algebra.specs.Group.{none_added}
 use Rattle.ct_algebra.specs.Terms.{EachTerm, IsCanonical}
@@ -14,16 +15,17 @@ use Rattle.ct_algebra.specs.Operators.{Operator, operator_group, no_operator, pr
 use Rattle.ct_algebra.proofs.OperatorTerms.{sums_are, none_is}
 use Rattle.ct_algebra.proofs.AppliedOperators.{no_operator-product_of}
 use Rattle.ct_mono.specs.Checked.{verdict}
-use Rattle.ct_mono.specs.Limits.{largest_degree, most_terms, largest_norm}
+use Rattle.ct_mono.specs.Limits.{largest_degree}
 use Rattle.ct_mono.specs.declared.fault.Kind.{Kind}
 use Rattle.ct_poly.specs.Measures.{broken}
 use Rattle.ct_ore.specs.declared.coefficient_term.CoefficientTerm.{CoefficientTerm}
 use Rattle.ct_ore.specs.CoefficientTerms.{sum_of_parts, size_of}
-use Rattle.ct_ore.specs.Measures.{greatest, row_of, all_terms, coefficient_terms, coefficient_degree, order_of, product_count, product_norm, product_overflow, checked_product}
+use Rattle.ct_ore.specs.Measures.{greatest, row_of, all_terms, coefficient_terms, coefficient_degree, order_of, product_overflow, checked_product}
+use Rattle.ct_ore.specs.MeasureLaws.{FitsProduct}
 use Rattle.ct_ore.specs.PairTerms.{product_terms}
 use Rattle.ct_ore.specs.Bounds.{EachWithin, HasRoom, CanMultiply}
 use Rattle.ct_ore.specs.Lists.{Fits, IsSum}
-use Rattle.ct_ore.proofs.PairMeasureLaws.{begin, none_of_zero, nonzero_product}
+use Rattle.ct_ore.proofs.PairMeasureLaws.{begin, by_norm, none_of_zero, nonzero_product}
 use Rattle.ct_ore.proofs.ProductBounds.{within-append}
 use Rattle.ct_ore.proofs.PairProduct.{product-value}
 use Rattle.ct_ore.proofs.ProductMeasures.{product_count-is, product_norm-is}
@@ -42,25 +44,27 @@ product_of-none a p =
     twice : sum_of_operators no_operator no_operator ≡ no_operator
     twice = sums_are _ _ ∙ ap₂ operator_group.◌+◌ none_is none_is ∙ operator_group.add_zero operator_group.zero ∙ sym none_is
 
+pub zero_left_fits : (a : Name → Action) (p q : Operator) → p ≡ no_operator → product_overflow a p q ≡ None
+zero_left_fits a p q none =
+    sym (none_of_zero a p q (ap (λ w. length w.terms * length q.terms) none ∙ ap (λ es. length es * length q.terms) terms-no_operator ∙ omega arith))
+
+pub zero_right_fits : (a : Name → Action) (p q : Operator) → q ≡ no_operator → product_overflow a p q ≡ None
+zero_right_fits a p q none =
+    sym (none_of_zero a p q (ap (λ w. length p.terms * length w.terms) none ∙ ap (λ es. length p.terms * length es) terms-no_operator ∙ omega arith))
+
 pub zero_left : (a : Name → Action) (p q r : Operator) → p ≡ no_operator → r ≡ no_operator → checked_product a p q ≡ Ok r
 unfolding checked_product verdict
 zero_left a p q r none same =
-    ap (λ o. verdict o (product_of a p q)) (sym (none_of_zero a p q (ap (λ w. length w.terms * length q.terms) none ∙ ap (λ es. length es * length q.terms) terms-no_operator ∙ omega arith)))
+    ap (λ o. verdict o (product_of a p q)) (zero_left_fits a p q none)
     ∙ ap Ok (ap (λ w. product_of a w q) none ∙ no_operator-product_of a q ∙ sym same)
 
 pub zero_right : (a : Name → Action) (p q r : Operator) → q ≡ no_operator → r ≡ no_operator → checked_product a p q ≡ Ok r
 unfolding checked_product verdict
 zero_right a p q r none same =
-    ap (λ o. verdict o (product_of a p q)) (sym (none_of_zero a p q (ap (λ w. length p.terms * length w.terms) none ∙ ap (λ es. length p.terms * length es) terms-no_operator ∙ omega arith)))
+    ap (λ o. verdict o (product_of a p q)) (zero_right_fits a p q none)
     ∙ ap Ok (ap (product_of a p) none ∙ product_of-none a p ∙ sym same)
 
 -- ---- where no rule is broken
-
-pub record FitsProduct (a : Name → Action) (p q : Operator) : Type 0 where
-  pub degrees : coefficient_degree p + coefficient_degree q ≤ largest_degree
-  pub orders : order_of p + order_of q ≤ largest_degree
-  pub count : product_count a p q ≤ most_terms
-  pub norm : product_norm a p q ≤ largest_norm
 
 broken_none : (b : Bool) (k : Kind) (later : Option Kind) → broken b k later ≡ None → (b ≡ false) × (later ≡ None)
 broken_none true k later e = cc
@@ -82,6 +86,12 @@ none_fits a p q left right none =
     let three = broken_none _ _ _ two.1 in
     let four = broken_none _ _ _ three.1 in
     record { degrees = ltb-false _ _ one.0; orders = ltb-false _ _ two.0; count = ltb-false _ _ three.0; norm = ltb-false _ _ four.0 }
+
+pub fits_none :
+    (a : Name → Action) (p q : Operator) → (p ≡ no_operator → ⊥) → (q ≡ no_operator → ⊥) → FitsProduct a p q →
+    product_overflow a p q ≡ None
+fits_none a p q left right fits =
+    sym (by_norm a p q (nonzero_product _ _ (nonempty p left) (nonempty q right)) fits.degrees fits.orders (le-ltb _ _ fits.count) false (le-ltb _ _ fits.norm))
 
 -- ---- the terms of both factors
 

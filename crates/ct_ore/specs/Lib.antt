@@ -4,6 +4,7 @@ pub mod TermSums
 pub mod CoefficientTerms
 pub mod PairWeights
 pub mod Measures
+pub mod MeasureLaws
 pub mod Wholes
 pub mod Lists
 pub mod PairTerms

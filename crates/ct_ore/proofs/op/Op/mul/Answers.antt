@@ -4,9 +4,10 @@ use Rattle.ct_ore.specs.Naming.{actions_of}
 use Rattle.ct_ore.specs.Terms.{op_entries}
 use Rattle.ct_ore.specs.CoefficientTerms.{sum_of_parts}
 use Rattle.ct_ore.specs.Measures.{all_terms, coefficient_terms, term_count, product_overflow}
+use Rattle.ct_ore.specs.MeasureLaws.{FitsProduct}
 use Rattle.ct_ore.specs.Bounds.{CanMultiply}
 use Rattle.ct_ore.specs.Lists.{Fits, IsPartsOf}
-use Rattle.ct_ore.proofs.ProductRules.{FitsProduct, zero_left, zero_right, none_fits, can_multiply, product_fits, answers_value, answers_kind, told_some}
+use Rattle.ct_ore.proofs.ProductRules.{zero_left, zero_right, none_fits, can_multiply, product_fits, answers_value, answers_kind, told_some}
 use Rattle.ct_ore.proofs.op.Op.mul.Goals as goal
 
 pub returns-then-is_zero : goal.returns-then-is_zero
