@@ -1,6 +1,6 @@
--- Each step takes the greatest reducible monomial away, so a reduction ends. Main lemmas `falls`, `reduction_is`: the
--- symbols before a generator have the monomial that is reduced for their leading monomial, so at it the difference is zero,
--- and above it nothing changes but by a factor. Cited by `ReductionMeans` and by the loop of the code.
+-- Each step takes the greatest reducible monomial away, so a reduction ends. Main lemmas `step_falls`, `falls`,
+-- `reduction_is`: the symbols before a generator have the monomial that is reduced for their leading monomial, so at it the
+-- difference is zero, and above it nothing changes but by a factor. Cited by `ReductionMeans`, the laws and the code's loop.
 use Rattle.std.specs.Prelude.{◌≡◌, ◌<◌, None, Some, Ok, List, ◌∷◌, refl, T}
 use Rattle.std.proofs.Common.{Option, sym, ◌∙◌, ap, ap₂, subst, arith, inl, inr, Ordering, Less, Equal, Greater}
 use Rattle.ct_algebra.specs.Ring.{mul_zero, one_mul}
@@ -146,21 +146,27 @@ module _ (a : Name → Action) where
       by Greater order =
           let high : mono_cmp h.mono g.mono ≡ Less = mono_turned_back _ _ order in absurd (aside high (before.above g.mono high))
 
+  pub step_falls :
+      (generators : List Operator) (s t : Reduction) (h g : Reducible) → greatest_reducible generators s ≡ Some h →
+      checked_step a h s ≡ Ok t → greatest_reducible generators t ≡ Some g → mono_cmp g.mono h.mono ≡ Less
+  step_falls generators s t h g is stepped after =
+      let before = found generators s.rest.terms h s.rest.canonical is in
+      lower generators h g s t before (found generators t.rest.terms g t.rest.canonical after)
+      (step_left generators h s t before.reduces stepped)
+
   pub falls : (generators : List Operator) → Falls (reduction_rank generators) (greatest_reducible generators) (checked_step a)
   unfolding reduction_rank
   falls generators s t h is stepped =
-      let before = found generators s.rest.terms h s.rest.canonical is in
-      let left = step_left generators h s t before.reduces stepped in
       subst (λ o. reducible_rank (greatest_reducible generators t) < reducible_rank o) (sym is)
-      (by before left (greatest_reducible generators t) refl)
+      (by (greatest_reducible generators t) refl)
     where
       by :
-          Found generators s.rest.terms h → Left h s t → (o : Option Reducible) → greatest_reducible generators t ≡ o →
+          (o : Option Reducible) → greatest_reducible generators t ≡ o →
           reducible_rank (greatest_reducible generators t) < reducible_rank (Some h)
-      by before left None none = let rank = ap reducible_rank none in omega arith
-      by before left (Some g) after =
+      by None none = let rank = ap reducible_rank none in omega arith
+      by (Some g) after =
           let rank = ap reducible_rank after in
-          let less = rank-less g.mono h.mono (lower generators h g s t before (found generators t.rest.terms g t.rest.canonical after) left) in omega arith
+          let less = rank-less g.mono h.mono (step_falls generators s t h g is stepped after) in omega arith
 
   pub reduction_is : (generators : List Operator) (s : Reduction) → reduction_from a generators s ≡ reduction_turn a generators s
   unfolding reduction_from

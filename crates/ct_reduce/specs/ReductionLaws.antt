@@ -6,7 +6,7 @@
 --     GreatestReducibleIsGreatest   `greatest_reducible` finds it, or the rest is reduced
 --     IsStep a h s t                all of s is multiplied by a factor, and a multiple of h's generator taken from the rest
 --     EachStepIsExact               a checked step, where it fits, is one
---     EachStepFalls                 each step makes the rank fall, so a reduction ends by itself
+--     EachStepFalls                 what is reducible after a step has a smaller monomial, so a reduction ends by itself
 --     ReductionGoesByTurns          a reduction is its first step and then the rest of the reduction
 --     RestZeroIsMember              an operator that reduces to zero is a member
 use Rattle.std.specs.Prelude.{◌≡◌, ◌≢◌, ℕ, ◌<◌, Ok, Some, List, length, get_or, MatchOption}
@@ -17,10 +17,9 @@ use Rattle.ct_algebra.specs.Names.{Name}
 use Rattle.ct_algebra.specs.Polynomial.{Polynomial, polys, times}
 use Rattle.ct_algebra.specs.Actions.{Action}
 use Rattle.ct_algebra.specs.Operators.{Operator, polynomial_at, no_operator, sum_of_operators, negative, term_of, product_of, multiple}
-use Rattle.ct_mono.specs.Loop.{Falls}
 use Rattle.ct_poly.specs.Division.{quotient}
 use Rattle.ct_reduce.specs.Membership.{Reduction, IsMember, ReducesTo, LeadingDivides, IsIrreducible, IsReduced}
-use Rattle.ct_reduce.specs.Reduction.{Reducer, Reducible, first_reducer, greatest_reducible, checked_step, reduction_rank, reduction_from, reduction_turn}
+use Rattle.ct_reduce.specs.Reduction.{Reducer, Reducible, first_reducer, greatest_reducible, checked_step, reduction_from, reduction_turn}
 
 pub record IsFirstReducer (m : Mono) (generators : List Operator) (r : Reducer) : Type 0 where
   pub known : r.place < length generators
@@ -77,8 +76,9 @@ EachStepIsExact =
 
 abbrev pub EachStepFalls : Type 0
 EachStepFalls =
-    (a : Name → Action) (generators : List Operator) →
-    Falls (reduction_rank generators) (greatest_reducible generators) (checked_step a)
+    (a : Name → Action) (generators : List Operator) (s t : Reduction) (h k : Reducible) →
+    greatest_reducible generators s ≡ Some h → checked_step a h s ≡ Ok t → greatest_reducible generators t ≡ Some k →
+    mono_cmp k.mono h.mono ≡ Less
 
 abbrev pub ReductionGoesByTurns : Type 0
 ReductionGoesByTurns =
