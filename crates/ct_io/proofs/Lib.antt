@@ -1,2 +1,1 @@
 mod ReadPiece
-mod FrontRead

@@ -2,6 +2,7 @@
 ghost use Rattle.std.specs.Prelude.{◌≡◌, ◌<◌, ◌≤◌, ◌+◌, ◌++◌, List, ℕ, Some, Err, take, drop, length, vec_len, IfOk, IfSome, OnOk};
 ghost use Rattle.std.specs.Io.KnownBytes.{Consumes, IsAtEnd, Keeps};
 ghost use Rattle.ct_io.specs.Faults.{Tells};
+ghost use Rattle.ct_io.specs.Taking.{TakesAtMost};
 
 use crate::NoMemory;
 use crate::source::Source;
@@ -20,7 +21,7 @@ pub enum SourceFault {
     NoMemory,
 }
 
-/// The bytes of the source, or so many of them where it has more.
+/// All bytes of the source, but at most `most`.
 pub fn read_up_to<S: Source>(
     alloc: Global,
     source: &mut S,
@@ -28,23 +29,8 @@ pub fn read_up_to<S: Source>(
 ) -> Result<Vec<u8>, SourceFault>
     ensures value { IfOk result (λ front. IfSome (S.left source.old) (λ bytes. front.items ≡ take most bytes)) }
     ensures left { OnOk result (IfSome (S.left source.old) (λ bytes. Keeps (Some (drop most bytes)) (S.left source.new))) }
-    ensures faults { Tells (result ≡ Err SourceFault.Failed) (S.faults source.old) (S.faults source.new) }
-{
-    match read_pieces(alloc, source, most) {
-        Ok(bytes) => Ok(bytes),
-        Err(fault) => Err(fault),
-    }
-}
-
-/// Reads piece by piece, to the end of the source or to the limit.
-fn read_pieces<S: Source>(
-    alloc: Global,
-    source: &mut S,
-    most: usize,
-) -> Result<Vec<u8>, SourceFault>
-    ensures left { IfOk result (λ front. Consumes (S.left source.old) (S.left source.new) front.items) }
     ensures limit { IfOk result (λ front. length front.items ≤ most) }
-    ensures whole { IfOk result (λ front. length front.items < most → IsAtEnd (S.left source.new)) }
+    ensures takes { TakesAtMost most (S.left source.old) (S.left source.new) }
     ensures faults { Tells (result ≡ Err SourceFault.Failed) (S.faults source.old) (S.faults source.new) }
 {
     let mut bytes = Vec::new(alloc);
@@ -72,6 +58,7 @@ fn read_piece<S: Source>(
     ensures grown { IfOk result (λ n. vec_len bytes.new ≡ vec_len bytes.old + n) }
     ensures bound { IfOk result (λ n. n ≤ length piece.old) }
     ensures end { IfOk result (λ n. n ≡ 0 → IsAtEnd (S.left source.new)) }
+    ensures takes { TakesAtMost (length piece.old) (S.left source.old) (S.left source.new) }
     ensures faults { Tells (result ≡ Err SourceFault.Failed) (S.faults source.old) (S.faults source.new) }
 {
     let count = match source.read(piece) {

@@ -1,6 +1,6 @@
 use Rattle.std.proofs.Common.{◌≡◌, ◌≤◌, ◌-◌, vec_len}
 use Rattle.std.specs.Io.KnownBytes.{Consumes}
-use Rattle.ct_io.proofs.reading.read_pieces.Given as goal
+use Rattle.ct_io.proofs.reading.read_up_to.Given as goal
 
 -- what was read so far is gone from the source, within the limit, and no read failed
 abbrev pub invariant-loop-bytes : goal.invariant-loop-bytes
