@@ -36,7 +36,7 @@ module _ (test : ℕ → Bool) where
       let one : 1 + prefix_len test bs ≡ suc (prefix_len test bs) = omega arith in
       length-prefix_len test (b ∷ bs) ∙ more ∙ one
 
--- ---- a token at the front of a text
+-- ---- a token at the beginning of a text
 
 pub record IsPiece (symbol : Symbol) (n : ℕ) (bs : List ℕ) : Type 0 where
   pub some : 0 < n

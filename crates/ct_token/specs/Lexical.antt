@@ -1,5 +1,5 @@
 -- The lexical grammar (this project's own).
---     piece_of fresh bs    what stands at the front of a text: a gap, a token, or a byte that can't stand there
+--     piece_of fresh bs    what stands at the beginning of a text: a gap, a token, or a byte that can't stand there
 --     scan_of bytes from   the tokens from a place on, up to the first byte that can't stand there, and where that is
 -- A word is a letter followed by letters, digits and `_`; a number is a string of digits; `..` is one token, and any other
 -- printable byte is a sign. A line ends with a line feed, or with a carriage return and one. A line whose first byte that
@@ -30,7 +30,7 @@ is_printable b = is_within 33 126 b
 abbrev pub is_inside_line : ℕ → Bool
 is_inside_line b = not (b == 10)
 
--- What stands at the front of a text: a gap between tokens, a token, or a byte that can't stand there.
+-- What stands at the beginning of a text: a gap between tokens, a token, or a byte that can't stand there.
 pub data Piece : Type 0 where
   Gap : ℕ → Piece
   Lexeme : Symbol → ℕ → Piece
@@ -87,7 +87,7 @@ with_piece (Gap n) at others = others
 with_piece (Lexeme symbol n) at others = record { tokens = record { symbol = symbol; from = at; to = at + n } ∷ others.tokens; bad = others.bad }
 with_piece Bad at others = record { tokens = []; bad = Some at }
 
--- The text goes on at this place, whose next so many bytes were read before.
+-- the tokens from this place on, whose first `skip` bytes belong to the piece before
 unfoldable pub scanned : Bool → ℕ → ℕ → List ℕ → Scanned
 scanned is_fresh at skip [] = record { tokens = []; bad = None }
 scanned is_fresh at (suc skip) (b ∷ bs) = scanned is_fresh (at + 1) skip bs

@@ -6,7 +6,7 @@ ghost use Rattle.ct_token.specs.Pieces.{view_of, scanned_by, IsWithin};
 use crate::token::{Symbol, Token};
 use std::alloc::{AllocError, Global};
 
-/// What stands at the front of a text.
+/// What stands at the beginning of a text.
 enum Piece {
     Gap(usize),
     Lexeme(Symbol, usize),
