@@ -1,27 +1,30 @@
--- Sums, differences and products of values are those of fractions. Main lemmas `sums_are_exact`, `differences_are_exact` and
--- `products_are_exact`. With the least common multiple m of p and q, and h their greatest common divisor, h·m is p·q; so what is
--- cleared to m is 1/h of what is multiplied crosswise.
-use Rattle.std.proofs.Common.{◌≡◌, ℕ, ◌*◌, ◌/◌, ◌<◌, Ok, sym, ◌∙◌, ap, ap₂, subst, arith}
+-- Sums, differences and products of values are those of fractions, and so are quotients of whole numbers and negatives. Main
+-- lemmas `sums_are_exact`, `differences_are_exact`, `products_are_exact`, `quotients_are_exact` and `negatives_are_exact`, which
+-- the laws of the same names cite. With the least common multiple m of p and q, and h their greatest common divisor, h·m is p·q;
+-- so what is cleared to m is 1/h of what is multiplied crosswise.
+use Rattle.std.proofs.Common.{◌≡◌, ℕ, pos, ◌*◌, ◌/◌, ◌<◌, Ok, refl, sym, ◌∙◌, ap, ap₂, subst, arith}
 use Rattle.std.specs.Int.{IsGcd}
 use Rattle.std.proofs.Math.Nat.{div-mul_cancel, eq_of_mul-eq-mul_right}
-use Rattle.ct_algebra.specs.Group.{hom_neg}
+use Rattle.ct_algebra.specs.Group.{hom_neg, zero_add}
 use Rattle.ct_algebra.specs.Monomial.{unit}
-use Rattle.ct_algebra.specs.Substitution.{one_is}
+use Rattle.ct_algebra.specs.Substitution.{one_is, number}
 use Rattle.ct_algebra.proofs.ProductRule.{one-product_of}
 use Rattle.ct_algebra.specs.Names.{Name}
 use Rattle.ct_algebra.specs.Actions.{Action}
-use Rattle.ct_algebra.specs.Operators.{Operator, operator_group, sum_of_operators, negative, product_of, term_of}
-use Rattle.ct_algebra.proofs.OperatorTerms.{sums_are, negatives_are}
+use Rattle.ct_algebra.specs.Operators.{Operator, operator_group, no_operator, sum_of_operators, negative, product_of, term_of}
+use Rattle.ct_algebra.proofs.OperatorTerms.{none_is, sums_are, negatives_are}
 use Rattle.ct_int.specs.Divisors.{greatest_common, least_common}
 use Rattle.ct_int.proofs.CommonDivisors.{greatest_common_is}
-use Rattle.ct_mono.specs.Checked.{Checked, verdict_ok}
+use Rattle.ct_mono.specs.Checked.{Checked, both_fit, verdict_ok}
 use Rattle.ct_poly.proofs.WholeLimits.{whole_ok}
 use Rattle.ct_ore.specs.Measures.{checked_sum, checked_difference, checked_product, difference_of_operators}
 use Rattle.ct_ore.specs.Wholes.{common_divisor, over_whole, checked_multiple}
 use Rattle.ct_ore.proofs.WholeLaws.{scaled, scaled_twice, scaled-sum, scaled_quotient}
-use Rattle.ct_expr.specs.ValueArithmetic.{Value, IsValue, lowest}
-use Rattle.ct_expr.specs.ValueLaws.{IsJoined, SumsAreExact, DifferencesAreExact, ProductsAreExact}
+use Rattle.ct_expr.specs.ValueArithmetic.{Value, IsValue, lowest, negated}
+use Rattle.ct_expr.specs.Value.{operator_of_polynomial, ratio}
+use Rattle.ct_expr.specs.ValueLaws.{IsJoined, SumsAreExact, DifferencesAreExact, ProductsAreExact, QuotientsAreExact, NegativesAreExact}
 use Rattle.ct_expr.proofs.ValueArithmetic.{Clears, clears, divisor_fits, product_fits}
+use Rattle.ct_expr.proofs.Values.{fraction_of-Ratio}
 use Rattle.ct_expr.proofs.ValueSteps.{Joins, plus_steps, minus_steps, times_steps}
 
 -- the factor between the least common multiple and the product
@@ -64,6 +67,13 @@ module _ (a : Name → Action) where
       ap (λ k. scaled a k (over_whole g x)) (ap (λ k. h * k) (sym (div-mul_cancel g fits.number)) ∙ turned)
       ∙ sym (scaled_twice a (n / g) (h * g) (over_whole g x))
       ∙ ap (scaled a (n / g)) (sym (scaled_twice a h g (over_whole g x)) ∙ ap (scaled a h) (scaled_quotient a g x fits.operator))
+
+  -- the same of the operator itself
+  lowest_exact : (x : Operator) (n : ℕ) → 0 < n → scaled a n (lowest x n).operator ≡ scaled a (lowest x n).whole x
+  lowest_exact x n some =
+      let once : scaled a 1 x ≡ x = ap (λ c. product_of a (term_of unit c) x) (sym one_is) ∙ one-product_of a x in
+      let same : n ≡ 1 * n = omega arith in
+      ap (λ k. scaled a k (lowest x n).operator) same ∙ lowest_scaled x n 1 some ∙ ap (scaled a (lowest x n).whole) once
 
   joined_exact :
       (checked : Operator → Operator → Checked Operator) (operation : Operator → Operator → Operator) →
@@ -120,10 +130,22 @@ products_are_exact a v w r is it e =
     let s = times_steps a v w r e in
     let kept = whole_ok (v.whole * w.whole) s.whole s.wholes in
     let fits = product_fits v.whole w.whole s.whole is.positive it.positive s.wholes in
-    let one : 1 * s.whole ≡ v.whole * w.whole = omega (arith, kept.same) in
-    let itself : scaled a 1 s.product ≡ product_of a v.operator w.operator = once_scaled ∙ sym (product_told a v.operator w.operator s.product s.operators) in
+    let product : product_of a v.operator w.operator ≡ s.product = product_told a v.operator w.operator s.product s.operators in
     subst (λ (u : Value). scaled a (v.whole * w.whole) u.operator ≡ scaled a u.whole (product_of a v.operator w.operator)) s.last
-    (ap (λ n. scaled a n (lowest s.product s.whole).operator) (sym one) ∙ lowest_scaled a s.product s.whole 1 fits.some ∙ ap (scaled a (lowest s.product s.whole).whole) itself)
-  where
-    once_scaled : scaled a 1 (times_steps a v w r e).product ≡ (times_steps a v w r e).product
-    once_scaled = ap (λ c. product_of a (term_of unit c) (times_steps a v w r e).product) (sym one_is) ∙ one-product_of a (times_steps a v w r e).product
+    (rw (kept.same, product) (lowest_exact a s.product s.whole fits.some))
+
+pub quotients_are_exact : QuotientsAreExact
+quotients_are_exact a n d v e some =
+    let same : ratio n (pos d) ≡ v = let told = sym (fraction_of-Ratio a n (pos d)) ∙ e in cc in
+    subst (λ (u : Value). scaled a d u.operator ≡ scaled a u.whole (operator_of_polynomial (number n))) same
+    (lowest_exact a (operator_of_polynomial (number n)) d some)
+
+pub negatives_are_exact : NegativesAreExact
+unfolding negated difference_of_operators
+negatives_are_exact v r e =
+    let step = both_fit (checked_difference no_operator v.operator) _ r e in
+    let same : record { operator = step.value; whole = v.whole } ≡ r = let e = step.rest in cc in
+    let none_before : sum_of_operators no_operator (negative v.operator) ≡ negative v.operator =
+    sums_are no_operator (negative v.operator) ∙ ap (λ z. operator_group.◌+◌ z (negative v.operator)) none_is ∙ zero_add operator_group (negative v.operator) in
+    subst (λ (u : Value). (u.operator ≡ negative v.operator) × (u.whole ≡ v.whole)) same
+    (sym (difference_told no_operator v.operator step.value step.first) ∙ none_before, refl)

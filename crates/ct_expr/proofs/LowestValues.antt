@@ -1,7 +1,6 @@
 -- The value of an expression is in lowest terms, over a whole number from 1 to the greatest coefficient. Main lemma
 -- `values_are_lowest`: each step ends in lowest terms, or keeps them.
-use Rattle.std.proofs.Common.{◌≡◌, ℕ, ◌<◌, ◌≤◌, Bool, true, ℤ, pos, negsuc, nat_le, nat_lt, ◌&&◌, Ok, IsTrue, unsigned_abs, refl, sym, subst, arith, rules, tests}
-use Rattle.std.specs.Int.{◌∣◌}
+use Rattle.std.proofs.Common.{◌≡◌, ℕ, ◌<◌, ◌≤◌, true, ℤ, pos, negsuc, nat_le, nat_lt, Ok, unsigned_abs, refl, sym, subst, arith, rules, tests}
 use Rattle.std.proofs.lemmas.Bool.{false≢true}
 use Rattle.std.proofs.Math.Nat.{eq-one_of_dvd-one}
 use Rattle.ct_algebra.specs.Names.{Name}

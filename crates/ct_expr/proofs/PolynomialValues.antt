@@ -1,6 +1,6 @@
 -- The value of an expression without symbols is a polynomial. Main lemma `polynomials_lose_nothing`, since sums, differences
 -- and products of polynomials are polynomials.
-use Rattle.std.proofs.Common.{◌≡◌, ℕ, zero, suc, Bool, true, false, List, [], ◌∷◌, map, Option, Some, None, Ok, pos, unsigned_abs, refl, sym, ap, ap₂, ◌∙◌, subst}
+use Rattle.std.proofs.Common.{◌≡◌, ℕ, Bool, true, false, List, [], ◌∷◌, map, Ok, pos, unsigned_abs, refl, sym, ap, ap₂, ◌∙◌, subst}
 use Rattle.std.proofs.lemmas.Bool.{false≢true}
 use Rattle.ct_algebra.specs.Group.{hom_neg}
 use Rattle.ct_algebra.specs.Names.{Name, name_with}
@@ -13,12 +13,12 @@ use Rattle.ct_algebra.specs.Operators.{Operator, operator_of, no_operator, negat
 use Rattle.ct_algebra.proofs.OperatorLawProofs as operator_laws
 use Rattle.ct_algebra.proofs.OperatorTerms.{at-term_of, negatives_are, pick-same, term_of-sum, term_of-zero, term_of_hom}
 use Rattle.ct_algebra.proofs.ProductRule.{multiple-term_of, product_of-polynomial}
-use Rattle.ct_mono.specs.Checked.{Checked, ◌>>=◌, both_fit, verdict_ok}
+use Rattle.ct_mono.specs.Checked.{Checked, both_fit, verdict_ok}
 use Rattle.ct_ore.specs.Measures.{checked_sum, checked_difference, checked_product, difference_of_operators}
 use Rattle.ct_ore.specs.Wholes.{whole_operator, common_divisor, over_whole, entry_over, checked_multiple}
 use Rattle.ct_ore.proofs.OperatorMeasures.{terms-term_of}
 use Rattle.ct_ore.proofs.WrittenOperators.{terms-no_operator}
-use Rattle.ct_expr.specs.ValueArithmetic.{Value, over_one, lowest, negated, checked_plus, checked_minus, checked_times}
+use Rattle.ct_expr.specs.ValueArithmetic.{Value, lowest, negated, checked_plus, checked_minus, checked_times}
 use Rattle.ct_expr.specs.Value.{operator_of_polynomial, value_of, fraction_of, has_no_symbol, no_symbol_step}
 use Rattle.ct_expr.specs.ValueLaws.{PolynomialsLoseNothing}
 use Rattle.ct_expr.proofs.ValueSteps.{plus_steps, minus_steps, times_steps}

@@ -76,7 +76,7 @@ module _ (a : Name → Action) where
   abbrev pub product_of : List (Checked Value) → Checked Value
   product_of fs = product_from None fs
 
-  -- so many more factors of a power
+  -- n more factors of a power
   unfoldable pub power_from : Value → ℕ → Value → Checked Value
   power_from so_far zero base = Ok so_far
   power_from so_far (suc n) base = do

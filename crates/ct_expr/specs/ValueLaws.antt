@@ -3,17 +3,21 @@
 --     PolynomialsLoseNothing    the value of an expression without symbols is its coefficient of 1
 --     SumsAreExact, DifferencesAreExact    over the product of the whole numbers, a sum is that of the crosswise multiples
 --     ProductsAreExact          over the product of the whole numbers, a product is that of the operators
+--     QuotientsAreExact         d times the value of the quotient n/d is n
+--     NegativesAreExact         a negated value is the negative operator over the same whole number
 -- With v = x/m and w = y/n and their sum r = z/k, the law says m·n·z = k·(n·x + m·y): the sum of the fractions without a quotient.
-use Rattle.std.specs.Prelude.{◌≡◌, ℕ, ◌*◌, Ok, IsTrue}
+use Rattle.std.specs.Prelude.{◌≡◌, ℕ, ℤ, pos, ◌*◌, ◌<◌, Ok, IsTrue}
 use Rattle.ct_algebra.specs.Names.{Name}
 use Rattle.ct_algebra.specs.Monomial.{unit}
 use Rattle.ct_algebra.specs.Actions.{Action}
-use Rattle.ct_algebra.specs.Operators.{Operator, polynomial_at, sum_of_operators, product_of}
+use Rattle.ct_algebra.specs.Operators.{Operator, polynomial_at, sum_of_operators, negative, product_of}
+use Rattle.ct_algebra.specs.Substitution.{number}
 use Rattle.ct_ore.specs.Measures.{difference_of_operators}
 use Rattle.ct_ore.specs.Wholes.{whole_operator}
 use Rattle.ct_expr.specs.declared.expr.Expr.{Expr}
+use Rattle.ct_expr.specs.declared.expr.Expr.TheVariants.{Ratio}
 use Rattle.ct_expr.specs.Value.{fraction_of, is_evaluable, value_of, has_no_symbol, operator_of_polynomial}
-use Rattle.ct_expr.specs.ValueArithmetic.{Value, IsLowest, IsValue, checked_plus, checked_minus, checked_times}
+use Rattle.ct_expr.specs.ValueArithmetic.{Value, IsLowest, IsValue, negated, checked_plus, checked_minus, checked_times}
 
 abbrev pub ValuesAreLowest : Type 0
 ValuesAreLowest = (a : Name → Action) (x : Expr) (v : Value) → fraction_of a x ≡ Ok v → IsTrue (is_evaluable x) → IsValue v × IsLowest v
@@ -45,3 +49,11 @@ abbrev pub ProductsAreExact : Type 0
 ProductsAreExact =
     (a : Name → Action) (v w r : Value) → IsValue v → IsValue w → checked_times a v w ≡ Ok r →
     scaled a (v.whole * w.whole) r.operator ≡ scaled a r.whole (product_of a v.operator w.operator)
+
+abbrev pub QuotientsAreExact : Type 0
+QuotientsAreExact =
+    (a : Name → Action) (n : ℤ) (d : ℕ) (v : Value) → fraction_of a (Ratio n (pos d)) ≡ Ok v → 0 < d →
+    scaled a d v.operator ≡ scaled a v.whole (operator_of_polynomial (number n))
+
+abbrev pub NegativesAreExact : Type 0
+NegativesAreExact = (v r : Value) → negated v ≡ Ok r → (r.operator ≡ negative v.operator) × (r.whole ≡ v.whole)

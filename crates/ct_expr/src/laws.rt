@@ -1,5 +1,5 @@
 // The laws of the values of expressions, as functions with no code.
-ghost use Rattle.ct_expr.specs.ValueLaws.{ValuesAreLowest, PolynomialsLoseNothing, SumsAreExact, DifferencesAreExact, ProductsAreExact};
+ghost use Rattle.ct_expr.specs.ValueLaws.{ValuesAreLowest, PolynomialsLoseNothing, SumsAreExact, DifferencesAreExact, ProductsAreExact, QuotientsAreExact, NegativesAreExact};
 
 /// The value of an expression is in lowest terms.
 pub fn values_are_lowest()
@@ -24,4 +24,14 @@ pub fn differences_are_exact()
 /// A product of values is the product of the fractions.
 pub fn products_are_exact()
     ensures { ProductsAreExact }
+{}
+
+/// The value of a quotient of whole numbers is this fraction.
+pub fn quotients_are_exact()
+    ensures { QuotientsAreExact }
+{}
+
+/// A negated value is the negative of the fraction.
+pub fn negatives_are_exact()
+    ensures { NegativesAreExact }
 {}

@@ -56,7 +56,7 @@ fn part(alloc: Global, whole: u128) -> Result<Value, NoMemory>
     Ok(value)
 }
 
-/// The name n, so many times.
+/// The product of a number and n.
 fn names(alloc: Global, algebra: &Algebra, c: i128) -> Result<Value, Fault>
     requires { negsuc 170141183460469231731687303715884105726 ≤ℤ c }
 {
@@ -75,7 +75,7 @@ fn sum(alloc: Global, algebra: &Algebra) -> Result<Value, Fault> {
     product.plus(alloc, algebra, third)
 }
 
-/// The sum of n, so many times, and 1/2.
+/// The sum of a multiple of n and 1/2.
 fn with_half(alloc: Global, algebra: &Algebra, c: i128) -> Result<Value, Fault>
     requires { negsuc 170141183460469231731687303715884105726 ≤ℤ c }
 {
