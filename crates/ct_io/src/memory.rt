@@ -1,5 +1,5 @@
 // A source and a sink over memory, whose calls fail where they are told to.
-ghost use Rattle.std.specs.Prelude.{◌≡◌, ◌<◌, ◌≤◌, ◌↔◌, ◌⊎◌, ◌-◌, IsErr, IfOk, Contains, length, Some, min, []};
+ghost use Rattle.std.specs.Prelude.{◌≡◌, ◌<◌, ◌≤◌, ◌↔◌, ◌⊎◌, ◌-◌, IsErr, IfOk, OnErr, Contains, length, Some, min, []};
 ghost use Rattle.std.specs.Io.{ReadsAtMost, WritesAtMost};
 ghost use Rattle.std.specs.Io.KnownBytes.{ReadConsumes, WriteAppends};
 ghost use Rattle.ct_io.specs.Faults.{IsCounted, next_count};
@@ -68,6 +68,7 @@ impl Source for MemSource {
         ensures value { IfOk result (λ n. n ≡ min (min (length self.old.left) (length piece.old)) self.old.step) }
         ensures unchanged { (self.new.step ≡ self.old.step) × (self.new.fails ≡ self.old.fails) }
         ensures calls { self.new.calls ≡ next_count self.old.calls }
+        ensures counts { OnErr result (self.new.faults ≡ next_count self.old.faults) }
     {
         let call = self.calls;
         self.calls = call.saturating_add(1);
@@ -149,6 +150,7 @@ impl Sink for MemSink {
         ensures value { IfOk result (λ n. n ≡ min (min (length piece.now) (self.old.space - length self.old.taken)) self.old.step) }
         ensures unchanged { (self.new.step ≡ self.old.step) × (self.new.fails ≡ self.old.fails) × (self.new.space ≡ self.old.space) }
         ensures calls { self.new.calls ≡ next_count self.old.calls }
+        ensures counts { OnErr result (self.new.faults ≡ next_count self.old.faults) }
     {
         let call = self.calls;
         self.calls = call.saturating_add(1);
