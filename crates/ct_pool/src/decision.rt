@@ -63,7 +63,8 @@ pub(crate) fn conclude<J: Job>(
     }
     let misses = in_order(alloc, job, slots)?;
     match (least, best) {
+        (None, _) => Ok(Decision::AllMissed { misses }),
         (Some(index), Some(hit)) => Ok(Decision::Hit { index, hit, misses }),
-        _ => Ok(Decision::AllMissed { misses }),
+        (Some(_), None) => unreachable!(),
     }
 }
