@@ -1,16 +1,17 @@
 -- The proofs of specs/PolynomialLaws. Each is a law of finite sums or of the ring, read at polynomials; the degree is the
 -- total of the first term, and a monomial with a greater total is above all terms.
 use Rattle.std.specs.Prelude.{◌≡◌, ◌≢◌, refl, ◌<◌, ◌≤◌, ℤ, pos, T, List, [], ◌∷◌, ◌⊎◌}
-use Rattle.std.proofs.Common.{sym, ◌∙◌, ap, subst, arith, Ordering, Less, Equal, Greater, inl, inr}
+use Rattle.std.proofs.Common.{sym, ◌∙◌, ap, subst, arith, inl, inr}
 use Rattle.std.proofs.lemmas.Bool.{cases_lt}
 use Rattle.ct_algebra.specs.Terms.{by_order, is_less, AllBelow, IsCanonical, EachTerm, value_at}
 use Rattle.ct_algebra.specs.Laws.Terms.{at_below, at_head, not_zero}
 use Rattle.ct_algebra.specs.Sums.{at, none, same_sum, same_terms, at-⊕, at-none, at-negated, at-single}
-use Rattle.ct_algebra.specs.Monomial.{Mono, monomials, mono_cmp, mono_tied, total, less_of_total}
+use Rattle.ct_algebra.specs.Monomial.{Mono, monomials, mono_cmp, total, less_of_total}
 use Rattle.ct_algebra.specs.WholeNumbers.{int_group}
 use Rattle.ct_algebra.specs.Polynomial.{Polynomial, coefficient, polys, polys_domain, poly_of, plus, times, degree, degree_of, degree_greatest, times_is, terms-poly_of}
 use Rattle.ct_algebra.specs.Substitution.{term, term_is, term-*}
 use Rattle.ct_algebra.specs.PolynomialLaws.{PolynomialsAreARing, PolynomialsAreFiniteMaps, PolynomialsAreSumsOfTerms, ProductOfTermsIsATerm, PolynomialsHaveNoZeroDivisors, DegreeIsTheGreatestTotal}
+use Rattle.ct_algebra.proofs.MonomialLists.{cmp-other}
 use Rattle.ct_algebra.proofs.TermProducts.{sum_of-append, sum_of-one, sum_of-none}
 
 pub ring : PolynomialsAreARing
@@ -26,14 +27,6 @@ ring = record {
   times_distributes = polys.mul_add;
 }
 
-other_term : (m n : Mono) (c : ℤ) → m ≢ n → by_order (mono_cmp m n) (pos 0) c (pos 0) ≡ pos 0
-other_term m n c other = by (mono_cmp m n) refl
-  where
-    by : (r : Ordering) → mono_cmp m n ≡ r → by_order r (pos 0) c (pos 0) ≡ pos 0
-    by Less order = refl
-    by Equal order = absurd (other (mono_tied m n order))
-    by Greater order = refl
-
 coefficient-term :
     (m n : Mono) (c : ℤ) → coefficient (term m c) n ≡ by_order (mono_cmp m n) (pos 0) c (pos 0)
 coefficient-term m n c = ap (λ p. coefficient p n) (term_is m c) ∙ at-single monomials int_group m n c
@@ -44,7 +37,7 @@ finite_maps = record {
   same = same_sum monomials int_group;
   of_zero = at-none monomials int_group;
   of_a_term = λ m c. coefficient-term m m c ∙ ap (λ r. by_order r (pos 0) c (pos 0)) (monomials.same m);
-  of_another_term = λ m n c other. coefficient-term m n c ∙ other_term m n c other;
+  of_another_term = λ m n c other. coefficient-term m n c ∙ cmp-other m n (pos 0) c other;
   of_a_sum = at-⊕ monomials int_group;
   of_a_negative = at-negated monomials int_group;
 }

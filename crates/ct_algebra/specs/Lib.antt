@@ -27,6 +27,7 @@ pub mod PolynomialLaws
 pub mod TermLaws
 pub mod SymbolLaws
 pub mod OperatorLaws
+pub mod CoefficientLaws
 pub mod FieldLaws
 pub mod Determined
 pub mod CertificateLaws
