@@ -1,19 +1,22 @@
 -- The proof of specs/Determined. Maps that keep sums are known from single terms; maps of rings and derivations from the
--- names; the product of operators from symbols, since each monomial is a product of them; and maps of the field from
+-- names; the product of operators and what they make from symbols, since each monomial is a product of them; and maps of the field from
 -- polynomials, since a value times its denominator is its numerator, and nonzero factors cancel.
-use Rattle.std.specs.Prelude.{◌≡◌, ◌≢◌, refl, ℤ, pos, ◌*ℤ◌, Bool, true, false, eqb}
-use Rattle.std.proofs.Common.{sym, ◌∙◌, ap, subst, eqb-true, eq-eqb}
+use Rattle.std.specs.Prelude.{◌≡◌, ◌≢◌, refl, ℕ, ◌+◌, ℤ, pos, ◌*ℤ◌, Bool, true, false, cond, eqb}
+use Rattle.std.proofs.Common.{sym, ◌∙◌, ap, subst, arith, eqb-true, eq-eqb}
 use Rattle.ct_algebra.specs.Group.{cancel}
 use Rattle.ct_algebra.specs.Ring.{add_mul}
 use Rattle.ct_algebra.specs.Domain.{mul_cancel}
-use Rattle.ct_algebra.specs.Sums.{same_hom}
-use Rattle.ct_algebra.specs.Monomial.{Mono, monomials, ◌·◌, unit}
-use Rattle.ct_algebra.specs.Names.{Name, place, same_place, symbol, power, power_unit, power_symbol, by_symbols}
+use Rattle.ct_algebra.specs.Sums.{single, same_hom, same_hom_at}
+use Rattle.ct_algebra.specs.Terms.{EachTerm-weaker}
+use Rattle.ct_algebra.specs.Monomial.{Mono, exp, exp-·, monomials, ◌·◌, unit}
+use Rattle.ct_algebra.specs.Names.{Name, place, place_small, same_place, symbol, exp-symbol, power, power_unit, power_symbol, by_symbols}
 use Rattle.ct_algebra.specs.Polynomial.{Polynomial, polys, polys_domain, plus, times}
 use Rattle.ct_algebra.specs.Substitution.{P, term, number, name, agree, same_ring_hom, term-*}
 use Rattle.ct_algebra.specs.Laws.Derivations.{same_derivation}
-use Rattle.ct_algebra.specs.Actions.{Action, Shift, Derive, sigma, delta}
+use Rattle.ct_algebra.specs.Actions.{Action, Shift, Derive, Still, sigma, delta}
 use Rattle.ct_algebra.specs.Operators.{Operator, operator_set, operator_group, term_of, sum_of_operators, product_of, symbol_before, multiple, product_of-sum_left}
+use Rattle.ct_algebra.specs.OnPolynomials.{made_of}
+use Rattle.ct_algebra.specs.FreeOf.{IsWithout, IsOver}
 use Rattle.ct_algebra.specs.Fractions.{Ratio, by_values, fraction_set}
 use Rattle.ct_algebra.specs.Division.{fractions_domain, embed_nonzero}
 use Rattle.ct_algebra.specs.Field.{K, field, coefficients, sigma_by-nonzero}
@@ -21,8 +24,9 @@ use Rattle.ct_algebra.specs.FieldLaws.{embedded, value_of}
 use Rattle.ct_algebra.specs.Determined.{OperationsAreDetermined}
 use Rattle.ct_algebra.proofs.AppliedOperators.{multiple-one}
 use Rattle.ct_algebra.proofs.OperatorTerms.{sums_are, term_of-single}
-use Rattle.ct_algebra.proofs.ProductRule.{multiple-one_term, product_of-term_of, symbols_commute, symbol_before-one}
+use Rattle.ct_algebra.proofs.ProductRule.{product_of-symbol, product_of-split, multiple-one_term, product_of-term_of, symbols_commute, symbol_before-one}
 use Rattle.ct_algebra.proofs.SymbolLawProofs.{respect_the_ring, shifts, derivations}
+use Rattle.ct_algebra.proofs.OperatorLawProofs.{acts_on_polynomials}
 use Rattle.ct_algebra.proofs.FieldLawProofs.{extends, fractions}
 
 -- ---- products of polynomials
@@ -121,6 +125,69 @@ other_product a other left assoc polynomials_before symbols_before p q =
         ∙ assoc _ _ q ∙ polynomials_before c _ ∙ ap (multiple a c) (on_monomial m)
         ∙ sym (product_of-term_of a m c q)
 
+-- ---- what operators make of polynomials
+
+IsOverAt : (Name → Action) → Mono → Type 0
+IsOverAt a m = (i : Name) → a i ≡ Still → IsWithout i m
+
+module _
+    (a : Name → Action) (other : Operator → Polynomial → Polynomial)
+    (sums : (p q : Operator) (f : Polynomial) → other (sum_of_operators p q) f ≡ plus (other p f) (other q f))
+    (products : (p q : Operator) (f : Polynomial) → other (product_of a p q) f ≡ other p (other q f))
+    (constants : (c f : Polynomial) → other (term_of unit c) f ≡ times c f)
+    (shifted : (i : Name) (f : Polynomial) → a i ≡ Shift → other (term_of (symbol i) polys.one) f ≡ sigma a i f)
+    (derived : (i : Name) (f : Polynomial) → a i ≡ Derive → other (term_of (symbol i) polys.one) f ≡ delta a i f) where
+  Same : Operator → Type 0
+  Same p = (f : Polynomial) → other p f ≡ made_of a p f
+
+  same_product : (p q : Operator) → Same p → Same q → Same (product_of a p q)
+  unfolding Same
+  same_product p q first second f =
+      products p q f ∙ ap (other p) (second f) ∙ first (made_of a q f) ∙ sym (acts_on_polynomials.products a p q f)
+
+  same_polynomial : (c : Polynomial) → Same (term_of unit c)
+  unfolding Same
+  same_polynomial c f = constants c f ∙ sym (acts_on_polynomials.polynomials a c f)
+
+  same_symbol : (i : Name) (t : Action) → t ≢ Still → a i ≡ t → Same (term_of (symbol i) polys.one)
+  unfolding Same
+  same_symbol i Shift acts is f = shifted i f is ∙ sym (acts_on_polynomials.shifts a i f is)
+  same_symbol i Derive acts is f = derived i f is ∙ sym (acts_on_polynomials.derivations a i f is)
+  same_symbol i Still acts is f = absurd (acts refl)
+
+  same_monomial : (m : Mono) → IsOverAt a m → Same (term_of m polys.one)
+  unfolding IsOverAt
+  same_monomial =
+      by_symbols (λ m. IsOverAt a m → Same (term_of m polys.one)) (λ over. same_polynomial polys.one)
+      (λ i m same over. subst Same (product_of-symbol a i _ ∙ symbol_before-one a i m)
+      (same_product _ _ (same_symbol i (a i) (λ still. has_symbol i m (over i still)) refl) (same (λ j still. rest i m j (over j still)))))
+    where
+      parts : (i : Name) (m : Mono) (j : Name) → exp (symbol i · m) (place j) ≡ cond (eqb (place j) (place i)) 1 0 + exp m (place j)
+      parts i m j = exp-· (symbol i) m (place j) (place_small j) ∙ ap (λ n. n + exp m (place j)) (exp-symbol i (place j) (place_small j))
+
+      has_symbol : (i : Name) (m : Mono) → IsWithout i (symbol i · m) → ⊥
+      has_symbol i m none =
+          let own : ◌≡◌ {A = ℕ} (cond (eqb (place i) (place i)) 1 0) 1 = ap (λ b. cond b 1 0) (eq-eqb (place i) (place i) refl) in
+          omega (arith, none, parts i m i, own)
+
+      rest : (i : Name) (m : Mono) (j : Name) → IsWithout j (symbol i · m) → IsWithout j m
+      rest i m j none = omega (arith, none, parts i m j)
+
+  other_made : (p : Operator) → IsOver a p → Same p
+  unfolding Same plus IsOverAt
+  other_made p over f =
+      same_hom_at monomials polys.group operator_set P (λ p. other p f) (λ p. made_of a p f)
+      (record { sums = λ p q. ap (λ w. other w f) (sym (sums_are p q)) ∙ sums p q f })
+      (record { sums = λ p q. ap (λ w. made_of a w f) (sym (sums_are p q)) ∙ acts_on_polynomials.sums a p q f }) p
+      (EachTerm-weaker (λ m c without.
+      ap (λ w. other w f) (sym (split m c)) ∙ on_term m c without f ∙ ap (λ w. made_of a w f) (split m c)) p.terms over)
+    where
+      split : (m : Mono) (c : Polynomial) → product_of a (term_of unit c) (term_of m polys.one) ≡ single monomials polys.group m c
+      split m c = product_of-split a m c ∙ term_of-single m c
+
+      on_term : (m : Mono) (c : Polynomial) → IsOverAt a m → Same (product_of a (term_of unit c) (term_of m polys.one))
+      on_term m c without = same_product _ _ (same_polynomial c) (same_monomial m without)
+
 -- ---- maps of the field
 
 module _ (a : Name → Action) (i : Name) where
@@ -178,6 +245,8 @@ determined = record {
   sigma_only = other_sigma;
   delta_only = other_delta;
   product_only = other_product;
+  made_only = λ a other sums products constants shifted derived p over f.
+      unfold Same in other_made a other sums products constants shifted derived p over f;
   field_sigma_only = other_field_sigma;
   field_delta_only = other_field_delta;
 }

@@ -3,6 +3,8 @@
 --     sigma_only         a map of rings that moves one name by one and no other is σ of a shift
 --     delta_only         a derivation that is one at its name and zero at the others is δ of a derivation
 --     product_only       a product of operators that follows the rule, is associative and distributes is `product_of`
+--     made_only          a map by which operators make polynomials of polynomials, with sums, products, polynomials, shifts and
+--                        derivations as `made_of` has them, is `made_of` of operators over the actions
 --     field_sigma_only   a map of the field that keeps products and is σ on polynomials is σ
 --     field_delta_only   a map of the field with the product rule that is δ on polynomials is δ
 use Rattle.std.specs.Prelude.{◌≡◌, ◌≢◌, ℤ, pos, ◌*ℤ◌}
@@ -12,6 +14,8 @@ use Rattle.ct_algebra.specs.Polynomial.{Polynomial, polys, plus, times}
 use Rattle.ct_algebra.specs.Substitution.{term, number, name}
 use Rattle.ct_algebra.specs.Actions.{Action, Shift, Derive, sigma, delta}
 use Rattle.ct_algebra.specs.Operators.{Operator, term_of, sum_of_operators, product_of, symbol_before, multiple}
+use Rattle.ct_algebra.specs.OnPolynomials.{made_of}
+use Rattle.ct_algebra.specs.FreeOf.{IsOver}
 use Rattle.ct_algebra.specs.Field.{K, field, coefficients}
 use Rattle.ct_algebra.specs.FieldLaws.{embedded}
 
@@ -45,6 +49,14 @@ pub record OperationsAreDetermined : Type 0 where
       ((c : Polynomial) (p : Operator) → other (term_of unit c) p ≡ multiple a c p) →
       ((i : Name) (p : Operator) → other (term_of (symbol i) polys.one) p ≡ symbol_before a i p) →
       (p q : Operator) → other p q ≡ product_of a p q
+  pub made_only :
+      (a : Name → Action) (other : Operator → Polynomial → Polynomial) →
+      ((p q : Operator) (f : Polynomial) → other (sum_of_operators p q) f ≡ plus (other p f) (other q f)) →
+      ((p q : Operator) (f : Polynomial) → other (product_of a p q) f ≡ other p (other q f)) →
+      ((c f : Polynomial) → other (term_of unit c) f ≡ times c f) →
+      ((i : Name) (f : Polynomial) → a i ≡ Shift → other (term_of (symbol i) polys.one) f ≡ sigma a i f) →
+      ((i : Name) (f : Polynomial) → a i ≡ Derive → other (term_of (symbol i) polys.one) f ≡ delta a i f) →
+      (p : Operator) → IsOver a p → (f : Polynomial) → other p f ≡ made_of a p f
   pub field_sigma_only :
       (a : Name → Action) (i : Name) (other : K → K) →
       ((x y : K) → other (field.◌*◌ x y) ≡ field.◌*◌ (other x) (other y)) →
