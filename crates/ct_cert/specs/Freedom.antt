@@ -2,7 +2,7 @@
 --     lacks j m                 the monomial m has exponent 0 at the name j
 --     polynomial_lacks j p      no term of p contains j
 --     operator_lacks js p       no coefficient of p contains a name of js, and no monomial its symbol
--- Law `operator_lacks-free` in proofs/FreedomLaws: this is `OperatorIsFreeOf`.
+-- Lemma `operator_lacks-free` in proofs/Passing: the test decides `OperatorIsFreeOf`.
 use Rattle.std.specs.Prelude.{Bool, true, ◌&&◌, eqb, List, [], ◌∷◌, ℤ}
 use Rattle.ct_algebra.specs.Monomial.{Mono, exp}
 use Rattle.ct_algebra.specs.Names.{Name, place}

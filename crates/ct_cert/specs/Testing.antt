@@ -3,7 +3,7 @@
 --     Tested A          a value, or the ending
 --     t >>= f           first t, then f of its value; the first ending ends it, so `do` blocks give the order of tests
 --     test_of p c       the test of a checked truth value: it passes where that is true
---     AnswersTest t r   what a call may answer to t: its value, its ending, or want of memory
+--     AnswersTest t r   what a call may answer to t: its value, its ending, or out of memory
 --     AnswersVerdict    the same of a check's answer
 -- Cited by the tests and by every call that makes some.
 use Rattle.std.specs.Prelude.{◌≡◌, Ok, Err, Bool, true, false}

@@ -1,4 +1,4 @@
-// The sum over k of what S[n] - 2 and S[k] - 1 annihilate, with a report worked by hand.
+// The sum over k of what S[n] - 2 and S[k] - 1 annihilate, with a report written by hand.
 ghost use Rattle.std.specs.Prelude.{◌≡◌, ◌≢◌, ◌<◌, IfOk, length, [], ◌∷◌};
 ghost use Rattle.ct_algebra.specs.Names.{name_with};
 ghost use Rattle.ct_algebra.specs.Actions.{Still};
