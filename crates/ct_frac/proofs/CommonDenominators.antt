@@ -1,15 +1,21 @@
--- A common denominator is a denominator, and each part divides it factor by factor. Main lemmas `wider_ok` for two fractions
--- and `common_divided` for a list.
-use Rattle.std.specs.Prelude.{◌≡◌, ℕ, Ok, List, [], ◌∷◌}
-use Rattle.std.proofs.Common.{subst}
+-- A common denominator is a denominator, each part divides it factor by factor, and it divides whatever all parts divide. Main
+-- lemmas `wider_ok` for two fractions, `common_divided` for a list, and `divided_by_each` and `divides_common`, which the laws
+-- cite.
+use Rattle.std.specs.Prelude.{◌≡◌, refl, ℕ, ◌≤◌, max, Ok, List, [], ◌∷◌}
+use Rattle.std.proofs.Common.{Ordering, Less, Equal, Greater, sym, subst, arith}
+use Rattle.std.specs.Int.{◌∣◌}
 use Rattle.std.proofs.lemmas.Nat.Gcd.{dvd_trans, dvd_refl}
+use Rattle.std.proofs.Math.Nat.{one-dvd}
+use Rattle.ct_algebra.specs.Terms.{by_order}
 use Rattle.ct_mono.specs.Checked.{both_fit}
 use Rattle.ct_poly.specs.Wholes.{checked_whole}
-use Rattle.ct_frac.specs.Arithmetic.{all_greatest, DividesFactors, checked_wider, checked_common}
+use Rattle.ct_poly.specs.Order.{poly_cmp, poly_tied}
+use Rattle.ct_frac.specs.declared.factor.Factor.{Factor}
+use Rattle.ct_frac.specs.Arithmetic.{exponent_in, joined_greatest, all_greatest, EachIsIn, DividesFactors, checked_wider, checked_common}
 use Rattle.ct_int.specs.Divisors.{least_common}
-use Rattle.ct_frac.specs.FractionLaws.{EachIsWritten, EachDivides, CommonDenominatorIsDivided}
+use Rattle.ct_frac.specs.FractionLaws.{EachIsWritten, EachDivides, CommonDenominatorIsDivided, CommonDenominatorIsLeast}
 use Rattle.ct_frac.specs.Written.{Denominator, Written, IsDenominator, one_den}
-use Rattle.ct_int.proofs.CommonMultiples.{LeastCommon, least_common_is}
+use Rattle.ct_int.proofs.CommonMultiples.{LeastCommon, least_common_is, least_common_least}
 use Rattle.ct_frac.proofs.Exponents.{all_grow, all_stand, EachIsIn-grown, EachIsIn-itself, exponent_low}
 use Rattle.ct_frac.proofs.JoinedFactors.{same_ok, all_greatest_factors}
 use Rattle.ct_poly.proofs.WholeLimits.{whole_ok}
@@ -72,3 +78,45 @@ common_divided d (w ∷ ws) e answer is each =
 
 pub divided_by_each : CommonDenominatorIsDivided
 divided_by_each ws d each answer = let all = common_divided one_den ws d answer one_is_den each in (all.den, all.each)
+
+-- ---- the least
+
+joined_least :
+    (f : Factor) (fs gs : List Factor) → f.exp ≤ exponent_in f.poly gs → EachIsIn fs gs → EachIsIn (joined_greatest f fs) gs
+joined_least f [] gs low each = (low, tt)
+joined_least f (h ∷ fs) gs low each = by (poly_cmp h.poly f.poly) refl (joined_least f fs gs low each.1)
+  where
+    by :
+        (o : Ordering) → poly_cmp h.poly f.poly ≡ o → EachIsIn (joined_greatest f fs) gs →
+        EachIsIn (by_order o (h ∷ joined_greatest f fs) (record { poly = h.poly; exp = max h.exp f.exp } ∷ fs) (f ∷ h ∷ fs)) gs
+    by Less order more = (each.0, more)
+    by Equal order more =
+        let also : f.exp ≤ exponent_in h.poly gs = subst (λ p. f.exp ≤ exponent_in p gs) (sym (poly_tied h.poly f.poly order)) low in
+        (omega (arith, each.0, also), each.1)
+    by Greater order more = (low, each)
+
+all_least : (done fs gs : List Factor) → EachIsIn done gs → EachIsIn fs gs → EachIsIn (all_greatest done fs) gs
+all_least done [] gs each its = each
+all_least done (f ∷ fs) gs each its = all_least (joined_greatest f done) fs gs (joined_least f done gs its.0 each) its.1
+
+wider_least : (c d w e : Denominator) → checked_wider c d ≡ Ok w → DividesFactors c e → DividesFactors d e → DividesFactors w e
+unfolding checked_wider
+wider_least c d w e answer first second =
+    let both = both_fit (checked_whole (least_common c.whole d.whole)) (λ whole. Ok (record { whole = whole; factors = all_greatest c.factors d.factors })) w answer in
+    let kept = whole_ok (least_common c.whole d.whole) both.value both.first in
+    subst (λ w. DividesFactors w e) (same_ok (record { whole = both.value; factors = all_greatest c.factors d.factors }) w both.rest) (record {
+      whole = subst (λ k. k ∣ e.whole) kept.same ((least_common_least c.whole d.whole).divides_others e.whole first.whole second.whole);
+      factors = all_least c.factors d.factors e.factors first.factors second.factors;
+    })
+
+common_least :
+    (c : Denominator) (ws : List Written) (d e : Denominator) → checked_common c ws ≡ Ok d → DividesFactors c e → EachDivides ws e →
+    DividesFactors d e
+common_least c [] d e answer divides each = subst (λ d. DividesFactors d e) (same_ok c d answer) divides
+common_least c (w ∷ ws) d e answer divides each =
+    let both = both_fit (checked_wider c w.den) (λ b. checked_common b ws) d answer in
+    common_least both.value ws d e both.rest (wider_least c w.den both.value e both.first divides each.0) each.1
+
+pub divides_common : CommonDenominatorIsLeast
+divides_common ws d e answer each =
+    common_least one_den ws d e answer (record { whole = one-dvd e.whole; factors = tt }) each

@@ -1,9 +1,9 @@
 -- Normal gives a written form of the same value. Main lemmas `normal_written` and `normal-value`, which every call that
--- answers a fraction cites.
--- Dividing a factor out as often as it goes takes one power from the numerator and from the factor; so the cross products
--- stay equal. What is left has no common divisor, since a further one would divide the greatest.
-use Rattle.std.specs.Prelude.{◌≡◌, ◌≢◌, refl, ℕ, zero, suc, ◌*◌, ◌/◌, ◌<◌, ◌≤◌, pos, Bool, true, false, cond, None, Some, List, [], ◌∷◌, ◌++◌}
-use Rattle.std.proofs.Common.{Option, sym, ◌∙◌, ap, subst, arith}
+-- answers a fraction cites, and `divided_out_is`, which a law cites.
+-- Dividing a factor out as many times as possible takes one power from the numerator and from the factor; so the cross
+-- products stay equal. What is left has no common divisor, since a further one would divide the greatest.
+use Rattle.std.specs.Prelude.{◌≡◌, ◌≢◌, refl, ℕ, zero, suc, ◌*◌, ◌/◌, ◌<◌, pos, Bool, true, false, cond, None, Some, List, [], ◌∷◌, ◌++◌}
+use Rattle.std.proofs.Common.{Option, inl, inr, sym, ◌∙◌, ap, subst, arith}
 use Rattle.std.specs.Int.{◌∣◌, IsGcd}
 use Rattle.std.proofs.lemmas.List.{append-nil}
 use Rattle.std.proofs.lemmas.Nat.Gcd.{dvd_refl}
@@ -17,38 +17,32 @@ use Rattle.ct_poly.specs.Content.{content, divided}
 use Rattle.ct_poly.specs.Division.{quotient}
 use Rattle.ct_poly.proofs.DivisionLaws.{quotient_is}
 use Rattle.ct_frac.specs.declared.factor.Factor.{Factor}
-use Rattle.ct_frac.specs.declared.left.Left.{Left}
 use Rattle.ct_int.specs.Divisors.{greatest_common}
+use Rattle.ct_frac.specs.FractionLaws.{IsDividedOut, FactorsAreDividedOut}
 use Rattle.ct_frac.specs.Normal.{on_quotient, divided_out, with_exponent, Lowered, lowered, cancelled, in_lowest_terms, normal}
 use Rattle.ct_frac.specs.Written.{Denominator, Written, AreFactors, IsDenominator, IsWritten, power, product_of, multiplied_out, value, value_over, one_den, whole_polynomial}
 use Rattle.ct_int.proofs.CommonDivisors.{greatest_common_is, greatest_common_only}
 use Rattle.ct_frac.proofs.Denominators.{factors-kept, number-product, den_nonzero}
-use Rattle.ct_frac.proofs.Products.{times_comm, times_one, one_times, times_left_comm, product_of-append, product_of-with_exponent}
+use Rattle.ct_frac.proofs.Products.{times_comm, times_one, one_times, times_left_comm, power-sum, product_of-append, product_of-with_exponent}
 use Rattle.ct_frac.proofs.Quotients.{same_over}
 use Rattle.ct_frac.proofs.WholeParts.{part_whole, content_of_part}
 
 -- ---- one factor
 
--- n and the power of f have lost the same power of f
-pub record Divided (f n : Polynomial) (e : ℕ) (left : Left) : Type 0 where
-  pub lost : ℕ
-  pub numerator_is : n ≡ times left.numerator (power f lost)
-  pub power_is : power f e ≡ times (power f lost) (power f left.exponent)
-  pub low : left.exponent ≤ e
-
-pub divided_out_is : (f n : Polynomial) (e : ℕ) → Divided f n e (divided_out f n e)
-divided_out_is f n zero = record { lost = 0; numerator_is = sym (times_one n); power_is = sym (times_one polys.one); low = omega arith }
+pub divided_out_is : FactorsAreDividedOut
+divided_out_is f n zero =
+    record { lost = 0; exponent_is = omega arith; numerator_is = sym (times_one n); ended = inl refl }
 divided_out_is f n (suc e) = by (quotient n f) refl (λ q. divided_out_is f q e)
   where
-    by : (o : Option Polynomial) → quotient n f ≡ o → ((q : Polynomial) → Divided f q e (divided_out f q e))
-        → Divided f n (suc e) (on_quotient o (record { numerator = n; exponent = suc e }) (λ q. divided_out f q e))
-    by None none more = record { lost = 0; numerator_is = sym (times_one n); power_is = sym (one_times _); low = omega arith }
+    by : (o : Option Polynomial) → quotient n f ≡ o → ((q : Polynomial) → IsDividedOut f q e (divided_out f q e))
+        → IsDividedOut f n (suc e) (on_quotient o (record { numerator = n; exponent = suc e }) (λ q. divided_out f q e))
+    by None none more = record { lost = 0; exponent_is = omega arith; numerator_is = sym (times_one n); ended = inr none }
     by (Some q) found more = let h = more q in record {
       lost = suc h.lost;
+      exponent_is = omega (arith, h.exponent_is);
       numerator_is = sym (quotient_is n f q found) ∙ ap (λ w. times w f) h.numerator_is ∙ times_assoc _ _ _
           ∙ ap (times (divided_out f q e).numerator) (times_comm _ f);
-      power_is = ap (times f) h.power_is ∙ sym (times_assoc f _ _);
-      low = omega (arith, h.low);
+      ended = h.ended;
     }
 
 -- ---- all factors
@@ -58,7 +52,7 @@ lowered_factors n done [] are = subst AreFactors (append-nil done) are
 lowered_factors n done (f ∷ fs) are =
     let left = divided_out f.poly n f.exp in
     lowered_factors left.numerator (done ++ with_exponent f.poly left.exponent []) fs
-    (factors-kept done f left.exponent fs (divided_out_is f.poly n f.exp).low are)
+    (factors-kept done f left.exponent fs (let is = divided_out_is f.poly n f.exp in omega (arith, is.exponent_is)) are)
 
 regroup : (t l d r s : Polynomial) → times t (times l (times (times d r) s)) ≡ times l (times d (times (times t r) s))
 regroup t l d r s = simp (times_assoc, times_left_comm)
@@ -79,7 +73,7 @@ lowered-value n done (f ∷ fs) =
     ∙ ap (times (power f.poly is.lost)) (lowered-value left.numerator kept fs)
     ∙ ap (λ x. times (power f.poly is.lost) (times r.numerator (times x (product_of fs)))) kept_is
     ∙ regroup (power f.poly is.lost) r.numerator (product_of done) (power f.poly left.exponent) (product_of fs)
-    ∙ ap (λ x. times r.numerator (times (product_of done) (times x (product_of fs)))) (sym is.power_is)
+    ∙ ap (λ x. times r.numerator (times (product_of done) (times x (product_of fs)))) (sym (ap (power f.poly) (sym is.exponent_is) ∙ power-sum f.poly is.lost left.exponent))
 
 -- ---- the whole number
 

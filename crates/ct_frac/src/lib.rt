@@ -31,4 +31,7 @@ pub use ct_poly::{Fault, Kind, NoMemory, Poly};
 pub use den::Den;
 pub use factor::Factor;
 pub use frac::Frac;
-pub use laws::{common_denominator_is_divided, written_value_is_a_quotient};
+pub use laws::{
+    common_denominator_is_divided, common_denominator_is_least, factors_are_divided_out,
+    written_value_is_a_quotient,
+};
