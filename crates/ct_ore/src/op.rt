@@ -18,7 +18,7 @@ use crate::coefficients::{gathered, parts_of, term_count, term_norm};
 use crate::measures::product_overflow;
 use crate::merging::merged_terms;
 use crate::product::product_by_halves;
-use crate::terms::{copied, negated};
+use crate::terms::{copied, negated, same_terms};
 use ct_mono::{Fault, Kind, LARGEST_NORM, MOST_TERMS, Monomial, NoMemory};
 use ct_poly::Poly;
 use std::alloc::Global;
@@ -109,6 +109,12 @@ impl Op {
         Ok(Op { terms })
     }
 
+    pub fn same(&self, other: &Op) -> bool
+        ensures { IsTrue result ↔ (self.now ≡ other.now) }
+    {
+        same_terms(self.terms(), other.terms())
+    }
+
     pub fn copy(&self, alloc: Global) -> Result<Op, NoMemory>
         ensures value { IfOk result (λ r. r ≡ self.now) }
     {
@@ -124,7 +130,7 @@ impl Op {
         let _ = &self.terms;
     }
 
-    // The operator of terms whose products of symbols fall.
+    /// The operator of terms whose products of symbols fall.
     pub(crate) fn of_terms(terms: Vec<OpTerm>) -> Op
         requires falling { IsOperator terms.items }
         requires few { term_count (operator_of_terms terms.items) ≤ most_terms }
@@ -134,7 +140,7 @@ impl Op {
         Op { terms }
     }
 
-    // The terms of all coefficients.
+    /// The terms of all coefficients.
     pub(crate) fn parts(&self, alloc: Global) -> Result<Vec<CoefficientTerm>, NoMemory>
         ensures { IfOk result (λ v. IsPartsOf self.now v.items) }
     {
@@ -142,7 +148,7 @@ impl Op {
         Ok(parts)
     }
 
-    // The operator that a list in written form adds up to.
+    /// The operator that a list in written form adds up to.
     pub(crate) fn of_parts(alloc: Global, ts: &[CoefficientTerm]) -> Result<Op, NoMemory>
         requires { Fits ts.now }
         ensures { IfOk result (λ r. r ≡ sum_of_parts ts.now) }

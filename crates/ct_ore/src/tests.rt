@@ -62,6 +62,7 @@ fn a_shift_moves_past_its_name(rt: HostRuntime) -> Result<(), Fail> {
     let turned = n.mul(rt.alloc(), &algebra, &shift)?;
     let difference = product.sub(rt.alloc(), &turned)?;
     assert!(rt; is_listed(&difference, &[(1, 0, 0, 0, 1)]));
+    assert!(rt; difference.same(&shift) && !product.same(&turned));
     Ok(())
 }
 

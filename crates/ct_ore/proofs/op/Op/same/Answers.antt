@@ -1,0 +1,11 @@
+use Rattle.std.proofs.Common.{sym, ◌∙◌, ap}
+use Rattle.ct_algebra.specs.Monomial.{monomials}
+use Rattle.ct_algebra.specs.Polynomial.{polys}
+use Rattle.ct_algebra.specs.Sums.{same_terms}
+use Rattle.ct_ore.proofs.op.Op.same.Goals as goal
+
+pub returns : goal.returns
+returns c = (
+  λ yes. same_terms monomials polys.group _ _ (sym c.terms.ensures ∙ c.same_terms.ensures.0 yes ∙ c.terms-2.ensures),
+  λ equal. c.same_terms.ensures.1 (c.terms.ensures ∙ ap (λ p. p.terms) equal ∙ sym c.terms-2.ensures),
+)
