@@ -73,7 +73,7 @@ impl Algebra {
         self.names.as_slice()
     }
 
-    // What the symbol of a name does; a name past the list has none.
+    /// What the symbol of a name does; a name past the list has none.
     pub(crate) fn action(&self, i: u8) -> Action
         requires { i < 6 }
         ensures { action_of result ≡ actions_of self.now (name_with i) }

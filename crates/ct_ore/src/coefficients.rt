@@ -15,7 +15,7 @@ use ct_poly::{Poly, Term};
 use std::alloc::Global;
 use std::cmp::Ordering;
 
-// How many terms all coefficients have.
+/// How many terms all coefficients have.
 pub fn term_count(ops: &[OpTerm]) -> usize
     requires { length (all_terms (op_entries ops.now)) ≤ most_terms }
     ensures { result ≡ length (all_terms (op_entries ops.now)) }
@@ -29,7 +29,7 @@ pub fn term_count(ops: &[OpTerm]) -> usize
     count
 }
 
-// The sum of the absolute values in all coefficients.
+/// The sum of the absolute values in all coefficients.
 pub fn term_norm(ops: &[OpTerm]) -> u128
     requires { entries_norm (op_entries ops.now) ≤ largest_norm }
     ensures { result ≡ entries_norm (op_entries ops.now) }
@@ -43,7 +43,7 @@ pub fn term_norm(ops: &[OpTerm]) -> u128
     sum
 }
 
-// The terms of all coefficients.
+/// The terms of all coefficients.
 pub fn parts_of(alloc: Global, ops: &[OpTerm]) -> Result<Vec<CoefficientTerm>, NoMemory>
     requires { length (all_terms (op_entries ops.now)) ≤ most_terms }
     ensures { IfOk result (λ v. v.items ≡ all_terms (op_entries ops.now)) }
@@ -73,7 +73,7 @@ fn append_row(out: &mut Vec<CoefficientTerm>, m: &Monomial, ts: &[Term]) -> Resu
     Ok(())
 }
 
-// The terms of the operator that a list in written form adds up to.
+/// The terms of the operator that a list in written form adds up to.
 pub fn gathered(alloc: Global, ts: &[CoefficientTerm]) -> Result<Vec<OpTerm>, NoMemory>
     requires { Fits ts.now }
     ensures { IfOk result (λ v. op_entries v.items ≡ (sum_of_parts ts.now).terms) }

@@ -10,7 +10,7 @@ use crate::op::OpTerm;
 use ct_mono::Monomial;
 use ct_poly::Poly;
 
-// An exponent, which is no larger than the total.
+/// An exponent, which is no larger than the total.
 pub fn small_exponent(m: &Monomial, i: u8) -> u16
     requires { i < 6 }
     ensures value { result ≡ exp m.now i }
@@ -20,7 +20,7 @@ pub fn small_exponent(m: &Monomial, i: u8) -> u16
     m.exp(i)
 }
 
-// The greatest degree of a coefficient.
+/// The greatest degree of a coefficient.
 pub fn degree_of(ps: &[OpTerm]) -> u16
     ensures value { result ≡ greatest (map (λ e. degree e.1) (op_entries ps.now)) }
     ensures within { result ≤ largest_degree }
@@ -45,7 +45,7 @@ fn degree_of_poly(p: &Poly) -> u16
     t.mono.total()
 }
 
-// The greatest total of the symbols.
+/// The greatest total of the symbols.
 pub fn order_of(ps: &[OpTerm]) -> u16
     ensures value { result ≡ greatest (map (λ e. total e.0) (op_entries ps.now)) }
     ensures within { result ≤ largest_degree }

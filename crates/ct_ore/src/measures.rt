@@ -162,7 +162,7 @@ fn measure_of_name(
     }
 }
 
-// The first rule that the product of two operators breaks; their terms and the coefficient terms of the right one are given.
+/// The first rule that the product of two operators breaks; their terms and the coefficient terms of the right one are given.
 pub fn product_overflow(
     algebra: &Algebra,
     ps: &[OpTerm],

@@ -14,7 +14,7 @@ use std::alloc::Global;
 use std::cmp::Ordering;
 use std::vec::IntoIter;
 
-// The terms of the sum of two operators, which is within the limits.
+/// The terms of the sum of two operators, which is within the limits.
 pub fn merged_terms(
     alloc: Global,
     ps: Vec<OpTerm>,

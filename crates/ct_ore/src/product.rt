@@ -19,8 +19,8 @@ use crate::ways::{how_many, next_way, symbols_left};
 use ct_mono::{Monomial, NoMemory};
 use std::alloc::Global;
 
-// What the terms of the left factor make of the coefficient terms of the right one, in written form: the terms are halved
-// until one is left, and what the halves make is merged.
+/// What the terms of the left factor make of the coefficient terms of the right one, in written form: the terms are halved
+/// until one is left, and what the halves make is merged.
 pub fn product_by_halves(
     alloc: Global,
     algebra: &Algebra,

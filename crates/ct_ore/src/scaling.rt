@@ -13,7 +13,7 @@ use ct_mono::NoMemory;
 use ct_poly::Term;
 use std::alloc::Global;
 
-// Each term of a polynomial times each term of a list, in written form. The shorter one is halved.
+/// Each term of a polynomial times each term of a list, in written form. The shorter one is halved.
 pub fn multiple(
     alloc: Global,
     us: &[Term],

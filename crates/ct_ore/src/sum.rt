@@ -10,7 +10,7 @@ use ct_mono::NoMemory;
 use std::alloc::Global;
 use std::cmp::Ordering;
 
-// The sum of the absolute values.
+/// The sum of the absolute values.
 pub fn size_of_parts(ts: &[CoefficientTerm]) -> u128
     requires { size_of ts.now ≤ largest_norm }
     ensures { result ≡ size_of ts.now }
@@ -22,7 +22,7 @@ pub fn size_of_parts(ts: &[CoefficientTerm]) -> u128
     sum
 }
 
-// Both lists as one, terms at the same key added.
+/// Both lists as one, terms at the same key added.
 pub fn merge(
     alloc: Global,
     ps: &[CoefficientTerm],
@@ -100,8 +100,8 @@ fn count_before(ts: &[CoefficientTerm], b: &CoefficientTerm) -> usize
     low
 }
 
-// All terms in written form, terms at the same key added: what is in written form is copied, and what is not is cut in
-// two, each part by itself, and both are merged.
+/// All terms in written form, terms at the same key added: what is in written form is copied, and what is not is cut in
+/// two, each part by itself, and both are merged.
 pub fn sorted(alloc: Global, ts: &[CoefficientTerm]) -> Result<Vec<CoefficientTerm>, NoMemory>
     requires numbers { HasNumbers ts.now }
     requires small { size_of ts.now ≤ largest_norm }

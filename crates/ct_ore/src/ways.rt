@@ -9,7 +9,7 @@ ghost use Rattle.ct_ore.specs.Bounds.{IsCapped};
 use crate::algebra::Action;
 use ct_mono::LARGEST_NORM;
 
-// How many terms k symbols make of the power e.
+/// How many terms k symbols make of the power e.
 pub fn how_many(action: Action, k: u16, e: u16) -> u16
     requires { e ≤ largest_degree }
     ensures { result ≡ how_many (action_of action) k e }
@@ -21,7 +21,7 @@ pub fn how_many(action: Action, k: u16, e: u16) -> u16
     }
 }
 
-// How many of the k symbols stay where the power is lowered by j.
+/// How many of the k symbols stay where the power is lowered by j.
 pub fn symbols_left(action: Action, k: u16, j: u16) -> u16
     ensures { result ≡ symbols_left (action_of action) k j }
 {
@@ -32,7 +32,7 @@ pub fn symbols_left(action: Action, k: u16, j: u16) -> u16
     }
 }
 
-// The number before the next term, from the number before this one.
+/// The number before the next term, from the number before this one.
 pub fn next_way(action: Action, k: u16, e: u16, j: u16, way: u128) -> Option<u128>
     requires powers { e ≤ largest_degree }
     requires symbols { k ≤ largest_degree }
@@ -66,7 +66,7 @@ fn times_over(n: u128, a: u32, b: u16) -> Option<u128>
     if sum > LARGEST_NORM { None } else { Some(sum) }
 }
 
-// The sum, where it is within the largest norm.
+/// The sum, where it is within the largest norm.
 pub fn capped_sum(m: Option<u128>, n: Option<u128>) -> Option<u128>
     ensures { (v w : ℕ) → IsCapped v m → IsCapped w n → IsCapped (v + w) result }
 {
@@ -74,7 +74,7 @@ pub fn capped_sum(m: Option<u128>, n: Option<u128>) -> Option<u128>
     if sum > LARGEST_NORM { None } else { Some(sum) }
 }
 
-// The product, where it is within the largest norm.
+/// The product, where it is within the largest norm.
 pub fn capped_product(m: Option<u128>, n: Option<u128>) -> Option<u128>
     ensures { (v w : ℕ) → IsCapped v m → IsCapped w n → IsCapped (v * w) result }
 {
@@ -108,7 +108,7 @@ fn positive_product(m: Option<u128>, n: Option<u128>) -> Option<u128>
     }
 }
 
-// The weight of the shift by k of the power e.
+/// The weight of the shift by k of the power e.
 pub fn shift_weight(k: u16, e: u16) -> Option<u128>
     ensures { IsCapped ((1 + k) ^ e) result }
 {
@@ -123,7 +123,7 @@ pub fn shift_weight(k: u16, e: u16) -> Option<u128>
     weight
 }
 
-// The weight of k derivations of the power e.
+/// The weight of k derivations of the power e.
 pub fn derivation_weight(k: u16, e: u16) -> Option<u128>
     requires powers { e ≤ largest_degree }
     requires symbols { k ≤ largest_degree }

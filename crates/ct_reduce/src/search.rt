@@ -7,7 +7,7 @@ ghost use Rattle.ct_reduce.specs.Views.{found_reducer_of, found_reducible_of};
 use ct_mono::Monomial;
 use ct_ore::{Op, OpTerm};
 
-// A generator, its place in the list, and the symbols that take its leading monomial to another.
+/// A generator, its place in the list, and the symbols that take its leading monomial to another.
 #[derive(Drop)]
 pub(crate) struct Reducer<'a> {
     pub place: usize,
@@ -15,14 +15,14 @@ pub(crate) struct Reducer<'a> {
     pub symbols: Monomial,
 }
 
-// A term whose monomial has a reducer.
+/// A term whose monomial has a reducer.
 #[derive(Drop)]
 pub(crate) struct Reducible<'a, 'r> {
     pub term: &'r OpTerm,
     pub reducer: Reducer<'a>,
 }
 
-// The greatest monomial that has a reducer.
+/// The greatest monomial that has a reducer.
 pub(crate) fn greatest_reducible<'a, 'r>(
     generators: &'a [Op],
     rest: &'r Op,

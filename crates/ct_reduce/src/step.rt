@@ -16,7 +16,7 @@ use ct_poly::Poly;
 use std::alloc::Global;
 use std::mem::replace;
 
-// What a step does: the factor of the whole reduction, and the part of a generator that is taken.
+/// What a step does: the factor of the whole reduction, and the part of a generator that is taken.
 #[derive(Drop)]
 pub(crate) struct Step<'a> {
     pub factor: Poly,
@@ -25,7 +25,7 @@ pub(crate) struct Step<'a> {
     pub generator: &'a Op,
 }
 
-// The step for a reducible monomial.
+/// The step for a reducible monomial.
 #[tactic(auto, unfolding(crate::specs::Reduction::checked_plan))]
 pub(crate) fn plan<'a>(
     alloc: Global,
@@ -76,7 +76,7 @@ pub(crate) fn one(alloc: Global) -> Result<Poly, NoMemory>
     Poly::constant(alloc, 1)
 }
 
-// The rest, the scale and the cofactors, times the factor from the left, unless it is 1.
+/// The rest, the scale and the cofactors, times the factor from the left, unless it is 1.
 #[tactic(auto, unfolding(crate::specs::Reduction::multiplied_unless_one))]
 pub(crate) fn multiplied_unless_one(
     alloc: Global,
@@ -140,7 +140,7 @@ pub(crate) fn append(list: &mut Vec<Op>, p: Op) -> Result<(), NoMemory>
     Ok(())
 }
 
-// The step's part of its generator is taken from the rest, and added to the cofactor.
+/// The step's part of its generator is taken from the rest, and added to the cofactor.
 #[tactic(auto, unfolding(crate::specs::Reduction::checked_taken))]
 pub(crate) fn taken(
     alloc: Global,
