@@ -1,10 +1,11 @@
 -- What the workers bring back, and how it is put in order.
 --     IsFound              one worker's misses and hit are the outcomes of what it refuted and hit, and it has ended
+--     IsLeftOpen           a worker without a hit has the misses of what it refuted, and its index is still to be decided
 --     AreFound             they are outcomes of their indices
 --     key_of, key_found    the indices of a view, and of what its worker brings back
 --     Covers               each index below the bound is a miss of someone, and the least hit is someone's
 --     AreSlots, LeftEmpty  misses in the slots of their indices
-use Rattle.std.specs.Prelude.{◌≡◌, ℕ, ◌<◌, ◌≤◌, List, map, true, Option, Some, None, slice_get, ◌==◌, IfSome}
+use Rattle.std.specs.Prelude.{◌≡◌, ℕ, ◌<◌, ◌≤◌, List, map, true, false, Option, Some, None, slice_get, ◌==◌, IfSome}
 use Rattle.ct_core.specs.Counting.{Each, total, times, one_if}
 use Rattle.ct_core.specs.Steps.{some_and}
 use Rattle.ct_core.specs.Machine.{Sight}
@@ -32,6 +33,13 @@ pub record IsFound {M H : Type 0} (outcome : ℕ → Outcome M H) (count : ℕ) 
   pub hit_is : number_at hit ≡ sight.hit
   pub hit_found : IfSome hit (λ p. outcome p.0 ≡ Hit p.1)
   pub ended : has_ended count sight ≡ true
+
+-- the misses are those of the refuted numbers, nothing was hit, and an index below the count is pending
+pub record IsLeftOpen {M H : Type 0} (outcome : ℕ → Outcome M H) (count : ℕ) (sight : Sight) (misses : List (ℕ × M)) : Type 0 where
+  pub numbers : numbers_of misses ≡ sight.refuted
+  pub misses_are : AreMisses outcome misses
+  pub no_hit : sight.hit ≡ None
+  pub not_ended : has_ended count sight ≡ false
 
 -- what one worker brings back: the misses with their indices, and the hit with its index
 abbrev pub FoundValue : Type 0 → Type 0 → Type 0

@@ -27,7 +27,6 @@ fn team_of<M: Drop, H: Drop>(
     requires passes { All (λ pass. (pass.table ≡ claims.now.table) × (pass.sight ≡ fresh)) passes.items }
     ensures team { IfOk result (λ v. (vec_len v ≡ vec_len passes) × All (λ w. (w.pass.table ≡ claims.now.table) × (w.pass.sight ≡ fresh) × (w.misses.items ≡ []) × (w.hit ≡ None) × (w.starved ≡ false)) v.items) }
 {
-    let _ = claims;
     let mut team = Vec::with_capacity(alloc, passes.len())?;
     passes.reverse();
     while let Some(pass) = passes.pop() {
@@ -41,7 +40,7 @@ fn team_of<M: Drop, H: Drop>(
     Ok(team)
 }
 
-/// The passes in order, and what each worker found. Want of memory where a worker ended for it.
+/// The passes in order, and what each worker found. Out of memory where a worker was.
 fn results_of<J: Job>(
     alloc: Global,
     job: &J,
@@ -55,8 +54,6 @@ fn results_of<J: Job>(
     ensures keys { IfOk result (λ t. map (λ f. key_found (f.0.items, f.1)) t.1.items ≡ map key_of (map (λ pass. pass.sight) t.0.items)) }
     ensures found { IfOk result (λ t. Each (λ f. AreFound (J.outcome job.now) (f.0.items, f.1)) t.1.items) }
 {
-    let _ = job;
-    let _ = claims;
     let mut passes = Vec::with_capacity(alloc, team.len())?;
     let mut founds = Vec::with_capacity(alloc, team.len())?;
     team.reverse();
@@ -78,7 +75,7 @@ fn results_of<J: Job>(
 
 /// The least index below the count whose outcome is a hit, with all misses before it, or all misses.
 ///
-/// Any worker's want of memory is the answer's, also at an index beyond the least hit.
+/// Where any worker was out of memory, this is the answer, also at an index beyond the least hit.
 pub fn first_decided<J: Job, G: Gate, R: Threads + Sync>(
     rt: &R,
     alloc: Global,

@@ -20,7 +20,6 @@ pub(crate) fn fill<J: Job>(
     ensures len { length slots.new.items ≡ length slots.old.items }
     ensures left { LeftEmpty misses.items slots.old.items slots.new.items }
 {
-    let _ = job;
     while let Some((index, miss)) = misses.pop() {
         let place = index as usize;
         if place < slots.len() {
@@ -39,7 +38,6 @@ pub(crate) fn in_order<J: Job>(
     requires full { (k : ℕ) → slice_get slots.items k ≢ Some None }
     ensures value { IfOk result (λ misses. map Miss misses.items ≡ outcomes_below (J.outcome job.now) (vec_len slots)) }
 {
-    let _ = job;
     let mut misses = Vec::with_capacity(alloc, slots.len())?;
     slots.reverse();
     while let Some(slot) = slots.pop() {

@@ -7,7 +7,16 @@ use crate::hand::{Hand, Stage};
 use crate::{NoMemory, open};
 use std::alloc::Global;
 
-const STEPS: usize = 12;
+/// No schedule takes more steps.
+pub(crate) const STEPS: usize = 12;
+
+const PASSES: usize = 3;
+
+/// Whether the attempt at each index hits.
+const HITS: [bool; 3] = [false, true, false];
+
+/// The least index that hits.
+const LEAST: u64 = 1;
 
 /// How a schedule went.
 #[derive(Clone, Copy)]
@@ -21,7 +30,7 @@ pub(crate) struct Played {
     /// Whether some pass recorded its hit.
     pub hit: bool,
     /// Which passes go on.
-    pub goes_on: [bool; 3],
+    pub goes_on: [bool; PASSES],
 }
 
 /// What all schedules with some beginning came to.
@@ -44,7 +53,6 @@ fn hands_of(
     requires passes { All (λ pass. (pass.table ≡ claims.now.table) × (pass.sight ≡ fresh)) passes.items }
     ensures hands { IfOk result (λ v. (vec_len v ≡ vec_len passes) × All (λ hand. (hand.pass.table ≡ claims.now.table) × (hand.count ≡ claims.now.count)) v.items) }
 {
-    let _ = claims;
     let mut hands = Vec::with_capacity(alloc, passes.len())?;
     passes.reverse();
     while let Some(pass) = passes.pop() {
@@ -55,14 +63,12 @@ fn hands_of(
 
 fn move_all(claims: &Claims, hands: &mut Vec<Hand>, schedule: &[usize])
     requires hands { All (λ hand. (hand.pass.table ≡ claims.now.table) × (hand.count ≡ claims.now.count)) hands.old.items }
+    requires schedule { All (λ which. which < vec_len hands.old) schedule.now }
     ensures hands { All (λ hand. (hand.pass.table ≡ claims.now.table) × (hand.count ≡ claims.now.count)) hands.new.items }
     ensures len { vec_len hands.new ≡ vec_len hands.old }
 {
-    for turn in 0..schedule.len() {
-        let which = schedule[turn];
-        if which < hands.len() {
-            hands[which].turn(claims, &[false, true, false]);
-        }
+    for which in schedule {
+        hands[*which].turn(claims, &HITS);
     }
 }
 
@@ -70,7 +76,6 @@ fn passes_back(alloc: Global, claims: &Claims, mut hands: Vec<Hand>) -> Result<V
     requires hands { All (λ hand. (hand.pass.table ≡ claims.now.table) × (hand.count ≡ claims.now.count)) hands.items }
     ensures passes { IfOk result (λ v. (vec_len v ≡ vec_len hands) × All (λ pass. pass.table ≡ claims.now.table) v.items) }
 {
-    let _ = claims;
     let mut passes = Vec::with_capacity(alloc, hands.len())?;
     hands.reverse();
     while let Some(hand) = hands.pop() {
@@ -80,9 +85,12 @@ fn passes_back(alloc: Global, claims: &Claims, mut hands: Vec<Hand>) -> Result<V
 }
 
 /// Plays a schedule from the start, and gathers.
-pub(crate) fn play(alloc: Global, schedule: &[usize]) -> Result<Played, NoMemory> {
-    let (claims, mut root, passes) = open(alloc, 3, 3)?;
-    let mut hands = hands_of(alloc, &claims, 3, passes)?;
+pub(crate) fn play(alloc: Global, schedule: &[usize]) -> Result<Played, NoMemory>
+    requires { All (λ which. which < 3) schedule.now }
+{
+    let count = HITS.len() as u64;
+    let (claims, mut root, passes) = open(alloc, count, PASSES as u32)?;
+    let mut hands = hands_of(alloc, &claims, count, passes)?;
     move_all(&claims, &mut hands, schedule);
     let mut played = summary_of(hands.as_slice());
     let passes = passes_back(alloc, &claims, hands)?;
@@ -100,7 +108,7 @@ fn summary_of(hands: &[Hand]) -> Played {
         claimed: 0,
         refuted_first: 0,
         hit: false,
-        goes_on: [false; 3],
+        goes_on: [false; PASSES],
     };
     for (place, hand) in hands.iter().enumerate() {
         played.claimed = played.claimed.saturating_add(hand.claimed);
@@ -110,31 +118,32 @@ fn summary_of(hands: &[Hand]) -> Played {
         if hand.stage == Stage::Hit {
             played.hit = true;
         }
-        if place < 3 {
+        if place < PASSES {
             played.goes_on[place] = !(hand.stage == Stage::Hit || hand.stage == Stage::Over);
         }
     }
     played
 }
 
-/// Whether the two words are those of the definition: each claim is counted, and index 1 is the least hit once it
+/// Whether the two words are those of the definition: each claim is counted, and `LEAST` is the least hit once it
 /// was recorded. A complete schedule has recorded it, and has refuted index 0 once.
 fn is_right(played: &Played, complete: bool) -> bool {
     let words = played.next == played.claimed
-        && played.least == if played.hit { Some(1) } else { None };
+        && played.least == if played.hit { Some(LEAST) } else { None };
     words && (!complete || played.hit && played.refuted_first == 1)
 }
 
-/// All schedules that begin with the first so many steps of this one.
+/// All schedules that begin with the first `len` steps of this one.
 pub(crate) fn explore(
     alloc: Global,
     schedule: [usize; STEPS],
     len: usize,
 ) -> Result<Tally, NoMemory>
-    requires { len ≤ 12 }
+    requires len { len ≤ 12 }
+    requires schedule { All (λ which. which < 3) schedule }
 {
     let played = play(alloc, &schedule[..len])?;
-    let complete = played.goes_on == [false; 3];
+    let complete = played.goes_on == [false; PASSES];
     let mut tally = Tally {
         complete: if complete { 1 } else { 0 },
         unfinished: 0,
@@ -144,7 +153,7 @@ pub(crate) fn explore(
         tally.unfinished = if complete { 0 } else { 1 };
         return Ok(tally);
     }
-    for which in 0..3usize {
+    for which in 0..PASSES {
         if played.goes_on[which] {
             let mut longer = schedule;
             longer[len] = which;

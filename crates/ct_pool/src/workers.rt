@@ -2,7 +2,7 @@
 ghost use Rattle.std.specs.Prelude.{◌≡◌, ℕ, ◌+◌, ◌-◌, ◌<◌, ◌≤◌, true, false, [], length, vec_len, None, slice_index_or, All, IfOk};
 ghost use Rattle.std.specs.Thread.{IsSync};
 ghost use Rattle.ct_core.specs.Machine.{fresh};
-ghost use Rattle.ct_pool.specs.Found.{IsFound};
+ghost use Rattle.ct_pool.specs.Found.{IsFound, IsLeftOpen};
 
 use crate::claims::{Claims, Pass};
 use crate::job::{Job, Outcome};
@@ -17,7 +17,7 @@ pub(crate) struct Worker<M, H> {
     pub pass: Pass,
     pub misses: Vec<(u64, M)>,
     pub hit: Option<(u64, H)>,
-    /// Whether it ended for want of memory.
+    /// Whether it ended because it was out of memory.
     pub starved: bool,
 }
 
@@ -36,6 +36,7 @@ pub(crate) fn work<J: Job, G: Gate>(
     requires fresh { (worker.old.pass.sight ≡ fresh) × (worker.old.misses.items ≡ []) × (worker.old.hit ≡ None) × (worker.old.starved ≡ false) }
     ensures unchanged { (worker.new.pass.table ≡ worker.old.pass.table) × (worker.new.pass.number ≡ worker.old.pass.number) }
     ensures found { worker.new.starved ≡ false → IsFound (J.outcome job.now) claims.now.count worker.new.pass.sight worker.new.misses.items worker.new.hit }
+    ensures starved { worker.new.starved ≡ true → IsLeftOpen (J.outcome job.now) claims.now.count worker.new.pass.sight worker.new.misses.items }
 {
     loop {
         let Some(index) = claims.claim(&mut worker.pass) else {

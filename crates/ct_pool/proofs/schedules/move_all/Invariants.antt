@@ -2,8 +2,8 @@ use Rattle.std.proofs.Common.{◌≡◌, vec_len}
 use Rattle.std.specs.Prelude.{All}
 use Rattle.ct_pool.proofs.schedules.move_all.Given as goal
 
-abbrev pub invariant-loop-turn : goal.invariant-loop-turn
-invariant-loop-turn l = record {
+abbrev pub invariant-loop-which : goal.invariant-loop-which
+invariant-loop-which l = record {
   hands : All (λ hand. (hand.pass.table ≡ l.claims.table) × (hand.count ≡ l.claims.count)) l.hands.items;
   len : vec_len l.hands ≡ vec_len l.fn.hands;
 }
