@@ -1,4 +1,4 @@
--- A read that copies the front of what is left into a piece consumes just these bytes, and ends at the end alone.
+-- A read that copies a prefix of what is left into a piece consumes just these bytes, and ends at the end alone.
 -- Main lemma: `left-read`, which the proof of `MemSource`'s `read` cites.
 -- The piece then is what was copied before its old rest, so its first bytes are the first of what was left.
 use Rattle.std.proofs.Common.{◌≡◌, ◌<◌, ◌≤◌, ◌+◌, ◌++◌, [], length, take, drop, min, arith, ℕ, List, sym, ◌∙◌, ap}

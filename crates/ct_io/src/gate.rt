@@ -1,6 +1,6 @@
-// Whoever is told of the work.
+// Who hears of the work.
 
-/// Told of the work by any worker, from any thread. It answers nothing, so it cannot change an answer.
+/// It hears of the work from any worker, in any thread. It answers nothing, so it cannot change an answer.
 pub trait Gate: Sync {
     /// Called before each attempt, with its index.
     fn enter(&self, index: u64);

@@ -1,4 +1,4 @@
-//! The outside of a run: where its bytes come from, where they go, and who is told of the work.
+//! The outside of a run: where its bytes come from, where they go, and who hears of the work.
 //!
 //! A `Source` may tell the bytes that are left in it, a `Sink` those that it took. Each counts its faults,
 //! and a call fails only where this count rises, so whoever reads or writes through them can promise which
@@ -10,7 +10,7 @@
 //!
 //! `read_up_to` reads a source to its end or to a limit, and `write_all` writes a text whole or fails.
 //!
-//! A `Gate` is told of each attempt and of each column that is made. It answers nothing and has no meaning that
+//! A `Gate` hears of each attempt and of each column that is made. It answers nothing and has no meaning that
 //! a contract could cite, so no answer of the system depends on it: a gate can only count, or hold a worker
 //! back for a bounded time. The program hands in `NoGate`.
 #![tactic(auto)]

@@ -1,4 +1,4 @@
-// A source and a sink over memory, whose calls fail where they are told to.
+// A source and a sink over memory, whose listed calls fail.
 ghost use Rattle.std.specs.Prelude.{◌≡◌, ◌<◌, ◌≤◌, ◌↔◌, ◌⊎◌, ◌-◌, IsErr, IfOk, OnErr, Contains, length, Some, min, []};
 ghost use Rattle.std.specs.Io.{ReadsAtMost, WritesAtMost};
 ghost use Rattle.std.specs.Io.KnownBytes.{ReadConsumes, WriteAppends};

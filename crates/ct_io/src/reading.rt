@@ -71,7 +71,7 @@ fn read_piece<S: Source>(
     Ok(count)
 }
 
-/// A piece of so many bytes. Its length is an argument, so that no proof sees a list as long as the largest.
+/// A piece of `len` bytes. Its length is an argument, so that no proof sees a list as long as the largest.
 fn blank_piece(alloc: Global, len: usize) -> Result<Vec<u8>, NoMemory>
     ensures value { IfOk result (λ piece. vec_len piece ≡ len) }
 {

@@ -14,7 +14,7 @@ pub trait Sink {
     /// How many writes failed.
     ghost faults: { Self → ℕ };
 
-    /// Takes the front of the piece, and answers how many bytes this is: at least one of a piece that is not
+    /// Takes a prefix of the piece, and answers how many bytes this is: at least one of a piece that is not
     /// empty.
     fn write(&mut self, piece: &[u8]) -> Result<usize, Failed>
         ensures bound { WritesAtMost result piece.now }

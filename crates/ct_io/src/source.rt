@@ -19,7 +19,7 @@ pub trait Source {
     /// How many reads failed.
     ghost faults: { Self → ℕ };
 
-    /// Reads into the front of the piece, and answers how many bytes these are: none, for a piece that is not
+    /// Reads into the piece from its beginning, and answers how many bytes these are: none, for a piece that is not
     /// empty, is the end.
     fn read(&mut self, piece: &mut [u8]) -> Result<usize, Failed>
         ensures bound { ReadsAtMost result piece.new }

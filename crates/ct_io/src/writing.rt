@@ -7,7 +7,7 @@ ghost use Rattle.ct_io.specs.Faults.{IsCounted};
 use crate::sink::Sink;
 use crate::source::Failed;
 
-/// Writes all of the text, or a front of it where the sink fails. It takes no memory.
+/// Writes all of the text, or a prefix of it where the sink fails. It takes no memory.
 pub fn write_all<K: Sink>(sink: &mut K, text: &[u8]) -> Result<(), Failed>
     ensures taken { MatchResult result (λ _. Appends (K.taken sink.old) (K.taken sink.new) text.now) (λ _. (written : List ℕ) × StartsWith text.now written × Appends (K.taken sink.old) (K.taken sink.new) written) }
     ensures faults { IsCounted (K.faults sink.old) (K.faults sink.new) result }
