@@ -64,3 +64,4 @@ pub mod TakenEnds
 pub mod TakenProblems
 pub mod LexemeCounts
 pub mod OneReading
+pub mod ReadTexts

@@ -1,4 +1,4 @@
--- A text that is read stands for the problem that it is read as. Main lemma `gives_spelled`, which `read_problem` cites.
+-- A text that is read stands for the problem that it is read as. Main lemma `problem_spelled`; `read_problem` cites `gives_spelled`.
 use Rattle.std.proofs.Common.{◌≡◌, ℕ, ◌≤◌, Bool, true, false, cond, List, [], ◌∷◌, ◌++◌, length, nat_lt, Option, Result, Ok, Err, IfOk, refl, sym, ap, ◌∙◌, subst, arith, codes, ltb-false}
 use Rattle.std.proofs.lemmas.List.{append_assoc}
 use Rattle.ct_io.specs.declared.command.Command.{Command}
@@ -92,9 +92,9 @@ problem_is command bytes i j r short start e =
       behind = subst (λ (b : Option ℕ). MayFollow command tokens.rest b) bad tokens.behind;
     })
 
-text_is : (command : Command) (bytes : List ℕ) (r : Reading × ℕ) → problem_of command bytes ≡ Ok r → StandsFor command bytes r.0 r.1
+pub problem_spelled : (command : Command) (bytes : List ℕ) (r : Reading × ℕ) → problem_of command bytes ≡ Ok r → StandsFor command bytes r.0 r.1
 unfolding problem_of
-text_is command bytes r e = by (nat_lt most_bytes (length bytes)) refl e
+problem_spelled command bytes r e = by (nat_lt most_bytes (length bytes)) refl e
   where
     read : length bytes ≤ most_bytes → (o : Outcome (Reading × ℕ)) → problem command (input_of_scan bytes (scan_of bytes 0)) ≡ o → value_of o ≡ Ok r → StandsFor command bytes r.0 r.1
     read short (Err e) same h = cc
@@ -107,5 +107,5 @@ text_is command bytes r e = by (nat_lt most_bytes (length bytes)) refl e
     by false e h = read (ltb-false most_bytes (length bytes) e) (problem command (input_of_scan bytes (scan_of bytes 0))) refl h
 
 pub gives_spelled : (command : Command) (bytes : List ℕ) (r : Result Problem ReadFault) → Gives (problem_of command bytes) r → IfOk r (λ p. StandsFor command bytes (reading_of p) p.end)
-gives_spelled command bytes (Ok p) h = text_is command bytes (reading_of p, p.end) h
+gives_spelled command bytes (Ok p) h = problem_spelled command bytes (reading_of p, p.end) h
 gives_spelled command bytes (Err e) h = tt

@@ -10,7 +10,7 @@
 --     fresh_line                the step to a line: it meets a fault at a byte of the line that begins no token and no gap
 --     line_end, dots            the rules of these tokens; the last line may lack its end
 --     Reads c r new             what a function that reads may answer to a rule's outcome c: what was read, with the cursor
---                               where the rule left it, or the rule's fault, or want of memory
+--                               where the rule left it, or the rule's fault, or out of memory
 --     ReadsBy f c r new         the same of a result that is seen through f
 use Rattle.std.specs.Prelude.{◌≡◌, ℕ, ◌-◌, Bool, false, ◌||◌, if◌then◌else◌, ◌==◌, List, [], ◌∷◌, length, take, drop, min, Option, Some, None, Result, Ok, Err}
 use Rattle.std.specs.Str.{bytes_eq}
