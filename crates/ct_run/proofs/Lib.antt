@@ -3,4 +3,4 @@ mod Parts
 mod CertificateFits
 mod NoLets
 mod ReducedTexts
-mod Shown
+mod Meaning

@@ -1,23 +1,28 @@
--- What is given out for the front of a text is what is given out for the text.
--- Main lemma: `Reports-front`, at the end, which the proof of `answer_text` cites.
--- A text past the limit is refused by its length, and one within it is its own front.
-use Rattle.std.proofs.Common.{◌≡◌, ◌<◌, ◌+◌, Err, ap, ◌∙◌, arith, true, inl, inr, lt-ltb, nat_lt, List, ℕ, length, take, Option, Some, None, IfSome, subst, refl}
+-- A run that reports the output for what it read answers its source. Main lemmas `Answered-front` and `Answered-unwritten`, at the
+-- end, which the proof of `answer_text` cites.
+-- The output for the first bytes of a text is that for the text: past the limit it is refused by its length, and within it nothing is cut.
+use Rattle.std.proofs.Common.{◌≡◌, ◌<◌, ◌+◌, Err, ap, sym, ◌∙◌, arith, true, inl, inr, lt-ltb, nat_lt, List, [], ℕ, length, take, Option, Some, None, IfSome, subst, refl}
 use Rattle.std.proofs.lemmas.Bool.{cases_lt}
 use Rattle.std.proofs.lemmas.List.{length-take, take_all}
 use Rattle.ct_io.specs.declared.command.Command.{Command}
 use Rattle.ct_problem.specs.Limits.{most_bytes}
 use Rattle.ct_problem.specs.ReadProblem.{problem_of, too_long}
 use Rattle.ct_run.specs.Output.{Output}
-use Rattle.ct_run.specs.Out.{largest_text, out}
-use Rattle.ct_run.specs.Run.{Reports}
+use Rattle.ct_run.specs.Out.{largest_text, out, Means}
+use Rattle.ct_run.specs.Run.{Reports, Answered}
+use Rattle.ct_run.specs.Status.{status_of, outcome_of}
+use Rattle.ct_run.specs.declared.status.Outcome.{Outcome}
+use Rattle.ct_run.specs.declared.status.Outcome.TheVariants as outcome
 use Rattle.ct_run.specs.declared.status.Status.{Status}
+use Rattle.ct_run.specs.declared.status.Status.TheVariants as statuses
+use Rattle.ct_run.proofs.Meaning.{means_of}
 
 -- a text past the limit is refused
 past_limit : (command : Command) (bytes : List ℕ) → largest_text < length bytes → problem_of command bytes ≡ Err too_long
 unfolding problem_of
 past_limit command bytes long = let whole : nat_lt most_bytes (length bytes) ≡ true = lt-ltb _ _ long in rw whole refl
 
--- no more than the front of a text counts
+-- no more than the first bytes of a text count
 out-front : (command : Command) (bytes : List ℕ) → out command (take (largest_text + 1) bytes) ≡ out command bytes
 unfolding out
 out-front command bytes = elim (cases_lt largest_text (length bytes)) [
@@ -26,14 +31,57 @@ out-front command bytes = elim (cases_lt largest_text (length bytes)) [
   | inr short ↦ ap (out command) (take_all (largest_text + 1) bytes (omega arith))
 ]
 
--- what reports the answer to what was read reports the answer to the text
-pub Reports-front :
+outcome_of-status : (o : Outcome) → outcome_of (status_of o) ≡ Some o
+outcome_of-status outcome.Done = refl
+outcome_of-status outcome.NoneFound = refl
+outcome_of-status outcome.BadInput = refl
+outcome_of-status outcome.Overflow = refl
+outcome_of-status outcome.Usage = refl
+outcome_of-status outcome.CheckNo = refl
+
+-- a run that reported an output ended as this output means
+ended : (command : Command) (bytes : List ℕ) (status : Status) (before after : Option (List ℕ)) → Reports (out command bytes) status before after → IfSome (outcome_of status) (Means command bytes)
+ended command bytes status before after = by status
+  where
+    meant : (s : Status) (o : Outcome) → outcome_of s ≡ Some o → s ≡ status_of (out command bytes).outcome → Means command bytes o
+    meant s o is same =
+        let both : Some (out command bytes).outcome ≡ Some o = sym (outcome_of-status (out command bytes).outcome) ∙ ap outcome_of (sym same) ∙ is in
+        let this : (out command bytes).outcome ≡ o = cc in
+        subst (Means command bytes) this (means_of command bytes)
+
+    by : (s : Status) → Reports (out command bytes) s before after → IfSome (outcome_of s) (Means command bytes)
+    by statuses.Done reported = meant statuses.Done outcome.Done refl reported.0
+    by statuses.NoneFound reported = meant statuses.NoneFound outcome.NoneFound refl reported.0
+    by statuses.BadInput reported = meant statuses.BadInput outcome.BadInput refl reported.0
+    by statuses.Overflow reported = meant statuses.Overflow outcome.Overflow refl reported.0
+    by statuses.Usage reported = meant statuses.Usage outcome.Usage refl reported.0
+    by statuses.CheckNo reported = meant statuses.CheckNo outcome.CheckNo refl reported.0
+    by statuses.ReadFault reported = tt
+    by statuses.WriteFault reported = tt
+    by statuses.NoMemory reported = tt
+
+-- what reports the output for what was read answers the source
+pub Answered-front :
     (command : Command) (told before after : Option (List ℕ)) (text : List ℕ) (output : Output) (status : Status) →
     IfSome told (λ bytes. text ≡ take (largest_text + 1) bytes) →
     output ≡ out command text →
     Reports output status before after →
-    IfSome told (λ bytes. Reports (out command bytes) status before after)
-Reports-front command None before after text output status front answered reported = tt
-Reports-front command (Some bytes) before after text output status front answered reported =
+    Answered command told status before after
+Answered-front command None before after text output status front answered reported =
+    let reports = subst (λ (given : Output). Reports given status before after) answered reported in
+    record { bytes = text; of_source = tt; report = reports; certified = ended command text status before after reports }
+Answered-front command (Some bytes) before after text output status front answered reported =
     let same : output ≡ out command bytes = answered ∙ ap (out command) front ∙ out-front command bytes in
-    subst (λ (given : Output). Reports given status before after) same reported
+    let reports = subst (λ (given : Output). Reports given status before after) same reported in
+    record { bytes = bytes; of_source = refl; report = reports; certified = ended command bytes status before after reports }
+
+-- what wrote nothing for a fault of the source or the memory does, whatever was read
+pub Answered-unwritten :
+    (command : Command) (told taken : Option (List ℕ)) (status : Status) →
+    ((output : Output) → Reports output status taken taken) →
+    Answered command told status taken taken
+Answered-unwritten command told taken status unwritten = by told
+  where
+    by : (told : Option (List ℕ)) → Answered command told status taken taken
+    by None = Answered-front command None taken taken [] (out command []) status tt refl (unwritten (out command []))
+    by (Some bytes) = Answered-front command (Some bytes) taken taken (take (largest_text + 1) bytes) (out command (take (largest_text + 1) bytes)) status refl refl (unwritten (out command (take (largest_text + 1) bytes)))

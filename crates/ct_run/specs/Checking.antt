@@ -1,10 +1,14 @@
--- What `check` gives out for a problem and a report in the first form. The order of the steps is this project's own.
+-- The output of `check` for a problem and a report in the first form. The order of the steps is this project's own.
 --     checked_certificate names r     what the expressions of a report stand for, in text order
 --     is_first p                      a problem of the first form: no `let`, `use` or `den` line, and one support
 --     checked_form p r                the outcome and the line
 --     checked_text bytes p end        the same for a problem, and the text behind it
 -- An overflow in the problem's expressions comes before one in the report's, and this before the first test.
--- Above it: `IsShown` says what a yes means.
+-- Above it:
+--     Statement bytes                 the problem and the report that the bytes stand for by the grammar, and the values of both
+--     IsShown bytes                   what a yes means
+--     IsRefuted bytes text            what a no means
+--     CheckMeans bytes outcome text   what an outcome with this text means
 use Rattle.std.specs.Prelude.{◌≡◌, ◌==◌, Bool, false, not, ◌&&◌, if◌then◌else◌, is_none, Ok, Err, Option, Some, None, List, [], ◌∷◌, ◌++◌, length, ℕ}
 use Rattle.std.specs.List.{list_all}
 use Rattle.ct_algebra.specs.Names.{Name}
@@ -18,14 +22,19 @@ use Rattle.ct_expr.specs.declared.expr.Expr.{Expr}
 use Rattle.ct_problem.specs.declared.problem.Range.{Range}
 use Rattle.ct_problem.specs.declared.report.Quotient.{Quotient}
 use Rattle.ct_problem.specs.declared.report.Report.{Report}
-use Rattle.ct_problem.specs.ReadProblem.{Reading, problem_of, is_empty, is_used}
+use Rattle.ct_problem.specs.GrammarProblem.{StandsFor}
+use Rattle.ct_problem.specs.GrammarReport.{ReportStandsFor}
+use Rattle.ct_problem.specs.ReadProblem.{Reading, is_empty, is_used}
 use Rattle.ct_problem.specs.ReadReport.{report_of}
 use Rattle.ct_expr.specs.Value.{value_of, checked_polynomial}
+use Rattle.ct_cert.specs.declared.place.Place.{Place}
 use Rattle.ct_cert.specs.declared.place.Support.{Support}
-use Rattle.ct_cert.specs.Tests.{tests}
+use Rattle.ct_cert.specs.Tests.{tests, Holds}
+use Rattle.ct_run.specs.declared.status.Outcome as outcomes
+use Rattle.ct_run.specs.declared.status.Outcome.TheVariants.{Done, NoneFound, BadInput, Overflow, Usage, CheckNo}
 use Rattle.ct_run.specs.Output.{Output}
 use Rattle.ct_io.specs.declared.command.Command.TheVariants.{Check}
-use Rattle.ct_run.specs.Lines.{not_yet, overflow_in_setup, overflow_in_report, verdict_line}
+use Rattle.ct_run.specs.Lines.{not_yet, overflow_in_setup, overflow_in_report, no_line, verdict_line}
 pub use Rattle.ct_run.specs.Setup.{listed}
 use Rattle.ct_run.specs.Setup.{checked_values, checked_setup}
 
@@ -111,17 +120,41 @@ is_first p =
 unfoldable pub checked_text : List ℕ → Reading → ℕ → Output
 checked_text bytes p end = if is_first p then by_report p (report_of p.variables (length (listed p.generators)) bytes end) else not_yet
 
--- ---- what a yes means
+-- ---- what an answer means
 
--- the bytes are a problem and a report, and the report's certificate certifies its telescoper over the problem's generators
-pub record IsShown (bytes : List ℕ) : Type 0 where
+-- the bytes are a problem and a report on it, by the grammar, and their expressions have these values
+pub record Statement (bytes : List ℕ) : Type 0 where
   pub problem : Reading
   pub end : ℕ
-  pub read : problem_of Check bytes ≡ Ok (problem, end)
+  pub says_problem : StandsFor Check bytes problem end
   pub report : Report
-  pub reported : report_of problem.variables (length (listed problem.generators)) bytes end ≡ Some report
+  pub says_report : ReportStandsFor problem.variables (length (listed problem.generators)) bytes end report
   pub generators : List Operator
   pub valued : checked_setup problem ≡ Ok generators
   pub certificate : Certificate
   pub stated : checked_certificate problem.variables report ≡ Ok certificate
-  pub certified : Certifies (actions_of problem.variables) (summed_of problem.variables) generators certificate
+
+-- the report's certificate certifies its telescoper over the problem's generators
+pub record IsShown (bytes : List ℕ) : Type 0 where
+  pub statement : Statement bytes
+  pub certified : Certifies (actions_of statement.problem.variables) (summed_of statement.problem.variables) statement.generators statement.certificate
+
+module _ {bytes : List ℕ} (s : Statement bytes) where
+  -- what the test of this place asks is true
+  abbrev pub HoldsAt : Place → Type 0
+  HoldsAt = Holds (actions_of s.problem.variables) (summed_of s.problem.variables) s.generators (due_of s.problem) (found_of s.report) s.certificate
+
+-- what the test of some place asks is false, and the text is the line of that place
+pub record IsRefuted (bytes : List ℕ) (text : List ℕ) : Type 0 where
+  pub statement : Statement bytes
+  pub place : Place
+  pub refuted : ¬ HoldsAt statement place
+  pub line : text ≡ (no_line statement.problem.variables place).text
+
+abbrev pub CheckMeans : List ℕ → outcomes.Outcome → List ℕ → Type 0
+CheckMeans bytes Done text = IsShown bytes
+CheckMeans bytes CheckNo text = IsRefuted bytes text
+CheckMeans bytes BadInput text = Unit {0}
+CheckMeans bytes Overflow text = Unit {0}
+CheckMeans bytes NoneFound text = ⊥
+CheckMeans bytes Usage text = ⊥

@@ -1,7 +1,7 @@
--- The single lines that a run gives out, and their outcomes. This project's own.
+-- The outputs of one line, and their outcomes. This project's own.
 --     line_of text                    the text, and the end of its line
 --     bad_input e                     the first fault of a text
---     not_yet                         a text of a form that isn't worked
+--     not_yet                         a text of a form that isn't supported yet
 --     zero_generator g                the generator with this number is zero
 --     overflow_in_setup, overflow_in_report   an expression overflows in this kind
 --     overflow_in_reduction t kind    the reduction of the target with this number does
@@ -67,11 +67,11 @@ bad_input e = record { outcome = BadInput; text = line_of (codes "bad input " ++
 unfoldable pub zero_generator : ℕ → Output
 zero_generator place = record { outcome = BadInput; text = line_of (codes "bad input ZeroGenerator " ++ decimal place) }
 
--- the text is of a form that is not worked
+-- the text is of a form that is not supported yet
 abbrev pub not_yet : Output
 not_yet = record { outcome = BadInput; text = line_of (codes "bad input NotYet") }
 
--- what is given out where the words are refused
+-- the output where the words are refused
 abbrev pub usage : Output
 usage = record { outcome = Usage; text = line_of (codes "usage: mgfun COMMAND [--workers N] [--seed N]") }
 

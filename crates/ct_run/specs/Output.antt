@@ -1,4 +1,4 @@
--- What a run gives out.
+-- The output of a run.
 --     Output            an outcome and a text
 --     output_of made    the output that a value of the code holds
 use Rattle.std.specs.Prelude.{ℕ, List}

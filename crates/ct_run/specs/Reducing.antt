@@ -1,8 +1,10 @@
--- What `reduce` gives out: the left reduction of each target by the generators.
+-- The output of `reduce`: the left reduction of each target by the generators.
 --     checked_reductions a gs done xs    the reductions of operators in order, or the number of the first that overflows
 --     reduced_text names rs              the reductions as text, the targets and the cofactors counted from 1
 --     reduced p                          the outcome and the text for a problem
--- Above it: `AreReduced` says what a text of reductions means.
+-- Above it:
+--     AreReduced bytes text              what a text of reductions means
+--     ReduceMeans bytes outcome text     what an outcome with this text means
 use Rattle.std.specs.Prelude.{◌≡◌, ℕ, ◌+◌, List, [], ◌∷◌, ◌++◌, length, codes, decimal, Result, Ok, Err}
 use Rattle.ct_algebra.specs.Names.{Name}
 use Rattle.ct_algebra.specs.Actions.{Action}
@@ -14,8 +16,10 @@ use Rattle.ct_ore.specs.Naming.{Naming, actions_of}
 use Rattle.ct_reduce.specs.Membership.{Reduction, ReducesTo, IsReduced}
 use Rattle.ct_reduce.specs.Reduction.{checked_reduction}
 use Rattle.ct_answer.specs.Text.{polynomial_text, operator_text}
-use Rattle.ct_problem.specs.ReadProblem.{Reading, problem_of}
-use Rattle.ct_run.specs.declared.status.Outcome.TheVariants.{Done}
+use Rattle.ct_problem.specs.GrammarProblem.{StandsFor}
+use Rattle.ct_problem.specs.ReadProblem.{Reading}
+use Rattle.ct_run.specs.declared.status.Outcome as outcomes
+use Rattle.ct_run.specs.declared.status.Outcome.TheVariants as outcome
 use Rattle.ct_run.specs.Lines.{line_of, overflow_in_setup, overflow_in_reduction, zero_generator}
 use Rattle.ct_run.specs.Output.{Output}
 use Rattle.ct_run.specs.Setup.{Plain, Refusal, ZeroGenerator, Overflow, plain_setup}
@@ -60,7 +64,7 @@ module _ (names : List Naming) where
 -- ---- the answer
 
 abbrev pub by_reductions : List Naming → Result (List Reduction) TargetOverflow → Output
-by_reductions names (Ok rs) = record { outcome = Done; text = reduced_text names rs }
+by_reductions names (Ok rs) = record { outcome = outcome.Done; text = reduced_text names rs }
 by_reductions names (Err e) = overflow_in_reduction e.0 e.1
 
 abbrev pub by_setup : Reading → Result Plain Refusal → Output
@@ -79,14 +83,22 @@ EachReduces a generators [] [] = Unit {0}
 EachReduces a generators (x ∷ xs) (r ∷ rs) = (ReducesTo a generators x r × IsReduced generators r.rest) × EachReduces a generators xs rs
 EachReduces a generators _ _ = ⊥
 
--- the bytes are a problem, and this text shows for each target of it a reduction: the scale isn't zero, the scale times the
+-- the bytes are a problem by the grammar, and this text shows for each target of it a reduction: the scale isn't zero, the scale times the
 -- target is the combination of the cofactors and the generators plus the rest, and the rest is reduced
 pub record AreReduced (bytes : List ℕ) (text : List ℕ) : Type 0 where
   pub problem : Reading
   pub end : ℕ
-  pub read : problem_of Reduce bytes ≡ Ok (problem, end)
+  pub says_problem : StandsFor Reduce bytes problem end
   pub plain : Plain
   pub valued : plain_setup problem ≡ Ok plain
   pub reductions : List Reduction
   pub each : EachReduces (actions_of problem.variables) plain.generators plain.targets reductions
   pub shown : text ≡ reduced_text problem.variables reductions
+
+abbrev pub ReduceMeans : List ℕ → outcomes.Outcome → List ℕ → Type 0
+ReduceMeans bytes outcome.Done text = AreReduced bytes text
+ReduceMeans bytes outcome.BadInput text = Unit {0}
+ReduceMeans bytes outcome.Overflow text = Unit {0}
+ReduceMeans bytes outcome.CheckNo text = ⊥
+ReduceMeans bytes outcome.NoneFound text = ⊥
+ReduceMeans bytes outcome.Usage text = ⊥

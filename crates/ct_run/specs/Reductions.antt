@@ -1,5 +1,5 @@
 -- What the code's own faults of reductions stand for.
---     Reduces f o r     what a call may answer to an outcome: its value, seen through f, the target that overflows, or want of memory
+--     Reduces f o r     what a call may answer to an outcome: its value, seen through f, the target that overflows, or out of memory
 use Rattle.std.specs.Prelude.{◌≡◌, Result, Ok, Err}
 use Rattle.ct_run.specs.declared.reductions.TargetFault.{TargetFault}
 use Rattle.ct_run.specs.declared.reductions.TargetFault.TheVariants.{Overflow, NoMemory}

@@ -1,6 +1,6 @@
 -- What the code's own refusals stand for.
 --     refusal_of fault     the refusal that a fault of an expression is
---     Refuses f o r        what a call may answer to an outcome: its value, seen through f, its refusal, or want of memory
+--     Refuses f o r        what a call may answer to an outcome: its value, seen through f, its refusal, or out of memory
 --     plain_of s           the code's generators and targets
 use Rattle.std.specs.Prelude.{◌≡◌, Result, Ok, Err}
 use Rattle.ct_mono.specs.declared.fault.Fault.{Fault}

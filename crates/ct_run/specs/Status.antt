@@ -1,7 +1,8 @@
 -- The statuses of a run. Their numbers are this project's own.
 --     number_of status     the number that the process ends with
 --     status_of outcome    the status of a run whose output is written whole
-use Rattle.std.specs.Prelude.{ℕ}
+--     outcome_of status    the outcome of such a run, none where a read, a write or the memory failed
+use Rattle.std.specs.Prelude.{ℕ, Option, Some, None}
 use Rattle.ct_run.specs.declared.status.Outcome as outcomes
 use Rattle.ct_run.specs.declared.status.Outcome.TheVariants as outcome
 use Rattle.ct_run.specs.declared.status.Status as statuses
@@ -27,3 +28,15 @@ status_of outcome.BadInput = BadInput
 status_of outcome.Overflow = Overflow
 status_of outcome.Usage = Usage
 status_of outcome.CheckNo = CheckNo
+
+-- the outcome of a run whose output is written whole
+abbrev pub outcome_of : statuses.Status → Option outcomes.Outcome
+outcome_of Done = Some outcome.Done
+outcome_of NoneFound = Some outcome.NoneFound
+outcome_of BadInput = Some outcome.BadInput
+outcome_of Overflow = Some outcome.Overflow
+outcome_of Usage = Some outcome.Usage
+outcome_of CheckNo = Some outcome.CheckNo
+outcome_of ReadFault = None
+outcome_of WriteFault = None
+outcome_of NoMemory = None

@@ -1,4 +1,4 @@
-// What is given out for a text.
+// The output for a text.
 ghost use Rattle.std.specs.Prelude.{◌≡◌, IfOk};
 ghost use Rattle.ct_problem.specs.ReadProblem.{reading_of};
 ghost use Rattle.ct_run.specs.Out as spec;
@@ -14,7 +14,7 @@ use ct_io::{Command, NoMemory};
 use ct_problem::{Problem, ReadFault, read_problem};
 use std::alloc::Global;
 
-/// What is given out for a command and a text, of which the first `MOST_BYTES + 1` bytes are enough.
+/// The output for a command and a text, of which the first `MOST_BYTES + 1` bytes are enough.
 #[tactic(auto, unfolding(crate::specs::Out::out))]
 pub(crate) fn answer(alloc: Global, command: Command, bytes: &[u8]) -> Result<Output, NoMemory>
     ensures value { IfOk result (λ output. output_of output ≡ spec.out command bytes.now) }
@@ -27,11 +27,16 @@ pub(crate) fn answer(alloc: Global, command: Command, bytes: &[u8]) -> Result<Ou
     match command {
         Command::Check => answer_check(alloc, bytes, &problem),
         Command::Reduce => answer_problem(alloc, &problem),
-        _ => not_yet(alloc),
+        Command::Telescope
+        | Command::Test
+        | Command::Close
+        | Command::Member
+        | Command::Gen
+        | Command::Demo => not_yet(alloc),
     }
 }
 
-/// What `reduce` gives out for a problem.
+/// The output of `reduce` for a problem.
 #[tactic(auto, unfolding(crate::specs::Out::reduced_problem))]
 fn answer_problem(alloc: Global, problem: &Problem) -> Result<Output, NoMemory>
     ensures value { IfOk result (λ output. output_of output ≡ spec.reduced_problem (reading_of problem.now)) }

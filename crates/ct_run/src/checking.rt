@@ -1,4 +1,4 @@
-// What `check` gives out.
+// The output of `check`.
 ghost use Rattle.std.specs.Prelude.{◌≡◌, ◌≤◌, length, is_none, IfOk};
 ghost use Rattle.std.specs.List.{list_all};
 ghost use Rattle.ct_cert.specs.Certificates.{IsAnswerFor};
@@ -19,7 +19,7 @@ use ct_ore::{Answer, Op};
 use ct_problem::{Expr, Problem, Range, Report, read_found_report};
 use std::alloc::Global;
 
-/// What is given out for a problem, and the text behind it.
+/// The output for a problem, and the text behind it.
 #[tactic(auto, unfolding(crate::specs::Checking::checked_text))]
 pub(crate) fn answer_check(
     alloc: Global,

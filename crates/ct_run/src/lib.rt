@@ -1,11 +1,11 @@
-//! The top call: `run` reads the words and the text, and gives out the answer's bytes and a status.
+//! The top call: `run` reads the words and the text, and writes the answer's bytes and ends with a status.
 //!
-//! What it gives out is `out`, a definition over the command and the bytes of the text: `specs/Out.antt` is
+//! Its output is `out`, a definition over the command and the bytes of the text: `specs/Out.antt` is
 //! the page to read first, and `specs/Run.antt` says how a run ends and what it leaves of its source and its
 //! sink. A caller knows the status and each byte that the sink took, where the source and the sink tell theirs
 //! and none of them failed; where one did, it knows which.
 //!
-//! Nothing is written before the whole answer stands, so want of memory writes nothing.
+//! Nothing is written before the whole answer stands, so a run that is out of memory writes nothing.
 #![tactic(auto)]
 
 mod answer;

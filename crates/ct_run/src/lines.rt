@@ -1,4 +1,4 @@
-// The single lines that a run gives out.
+// The outputs of one line.
 ghost use Rattle.std.specs.Prelude.{◌≡◌, ◌++◌, decimal, IfOk, OnOk};
 ghost use Rattle.ct_run.specs.Lines as spec;
 ghost use Rattle.ct_run.specs.Output.{output_of};
@@ -12,7 +12,7 @@ use ct_ore::Algebra;
 use itoa::Buffer;
 use std::alloc::Global;
 
-/// The answer to a text of a form that is not worked.
+/// The answer to a text of a form that is not supported yet.
 pub(crate) fn not_yet(alloc: Global) -> Result<Output, NoMemory>
     ensures value { IfOk result (λ output. output_of output ≡ spec.not_yet) }
 {

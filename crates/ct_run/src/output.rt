@@ -1,4 +1,4 @@
-// What a run gives out.
+// The output of a run.
 
 use crate::status::Outcome;
 

@@ -1,4 +1,4 @@
-// What `reduce` gives out.
+// The output of `reduce`.
 ghost use Rattle.std.specs.Prelude.{◌≡◌, [], ◌∷◌, ◌++◌, map, IfOk, OnOk};
 ghost use Rattle.ct_answer.specs.Text.{operator_text};
 ghost use Rattle.ct_ore.specs.Naming.{actions_of};
@@ -21,7 +21,7 @@ use ct_problem::Problem;
 use ct_reduce::Reduced;
 use std::alloc::Global;
 
-/// What is given out for a problem without `let` and `use` lines.
+/// The output for a problem without `let` and `use` lines.
 #[tactic(auto, unfolding(crate::specs::Reducing::reduced))]
 pub(crate) fn answer_reduce(alloc: Global, problem: &Problem) -> Result<Output, NoMemory>
     ensures value { IfOk result (λ output. output_of output ≡ spec.reduced (reading_of problem.now)) }

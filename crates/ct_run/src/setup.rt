@@ -47,7 +47,7 @@ pub(crate) fn listed(gens: &Gens) -> &[Expr]
     }
 }
 
-/// Why a problem's generators and targets are not worked. Generators are counted from 1.
+/// Why setup fails. Generators are counted from 1.
 #[derive(Clone, Copy, Debug, PartialEq, Eq)]
 pub(crate) enum Refusal {
     ZeroGenerator(usize),

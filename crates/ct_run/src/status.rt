@@ -25,7 +25,7 @@ impl Status {
     }
 }
 
-/// How a run ends whose output is written whole: a status that is no fault and no want of memory.
+/// How a run ends whose output is written whole: a status that is no fault and not out of memory.
 #[derive(Clone, Copy, Debug, PartialEq, Eq)]
 pub enum Outcome {
     Done,

@@ -1,8 +1,7 @@
 // The top call.
-ghost use Rattle.std.specs.Prelude.{◌≡◌, ◌≢◌, IfSome, IfNone, map, string_bytes};
+ghost use Rattle.std.specs.Prelude.{◌≡◌, ◌≢◌, IfSome, IfNone, None, map, string_bytes};
 ghost use Rattle.ct_run.specs.Lines.{usage};
-ghost use Rattle.ct_run.specs.Out.{out, Means};
-ghost use Rattle.ct_run.specs.Run.{LeavesAfter, Reports, TellsFault};
+ghost use Rattle.ct_run.specs.Run.{Answered, LeavesAfter, Reports, TellsFault};
 ghost use Rattle.ct_run.specs.Words.{words_of};
 
 use crate::answer::answer;
@@ -28,10 +27,11 @@ pub fn run<R: Threads + Sync, S: Source, K: Sink, G: Gate>(
     sink: &mut K,
     _gate: &G,
 ) -> Status
-    ensures report { IfSome (words_of (map string_bytes words.now)) (λ command. IfSome (S.left source.old) (λ bytes. Reports (out command bytes) result (K.taken sink.old) (K.taken sink.new))) }
-    ensures certified { IfSome (words_of (map string_bytes words.now)) (λ command. result ≡ Status.Done → IfSome (S.left source.old) (Means command)) }
+    ensures answered { IfSome (words_of (map string_bytes words.now)) (λ command. Answered command (S.left source.old) result (K.taken sink.old) (K.taken sink.new)) }
     ensures left { IfSome (words_of (map string_bytes words.now)) (λ _. IfSome (S.left source.old) (λ bytes. LeavesAfter bytes result (S.left source.new))) }
-    ensures refused { IfNone (words_of (map string_bytes words.now)) (Reports usage result (K.taken sink.old) (K.taken sink.new) × (S.left source.new ≡ S.left source.old) × (result ≢ Status.ReadFault)) }
+    ensures refused { IfNone (words_of (map string_bytes words.now)) (Reports usage result (K.taken sink.old) (K.taken sink.new) × (source.new ≡ source.old) × (result ≢ Status.ReadFault)) }
+    ensures usage { result ≡ Status.Usage → words_of (map string_bytes words.now) ≡ None }
+    ensures unwritten { (result ≡ Status.ReadFault → sink.new ≡ sink.old) × (result ≡ Status.NoMemory → sink.new ≡ sink.old) }
     ensures read_fault { TellsFault result Status.ReadFault (S.faults source.old) (S.faults source.new) }
     ensures write_fault { TellsFault result Status.WriteFault (K.faults sink.old) (K.faults sink.new) }
 {
@@ -48,8 +48,8 @@ fn answer_text<S: Source, K: Sink>(
     source: &mut S,
     sink: &mut K,
 ) -> Status
-    ensures report { IfSome (S.left source.old) (λ bytes. Reports (out command bytes) result (K.taken sink.old) (K.taken sink.new)) }
-    ensures certified { result ≡ Status.Done → IfSome (S.left source.old) (Means command) }
+    ensures answered { Answered command (S.left source.old) result (K.taken sink.old) (K.taken sink.new) }
+    ensures unwritten { (result ≡ Status.ReadFault → sink.new ≡ sink.old) × (result ≡ Status.NoMemory → sink.new ≡ sink.old) }
     ensures left { IfSome (S.left source.old) (λ bytes. LeavesAfter bytes result (S.left source.new)) }
     ensures read_fault { TellsFault result Status.ReadFault (S.faults source.old) (S.faults source.new) }
     ensures write_fault { TellsFault result Status.WriteFault (K.faults sink.old) (K.faults sink.new) }
