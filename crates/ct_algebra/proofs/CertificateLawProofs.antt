@@ -1,22 +1,29 @@
--- The proofs of specs/CertificateLaws: main lemmas `difference_cleared` and `certificate_telescopes`. The symbol passes d by
--- the commutation rule, and what δ(d) leaves cancels; so H·E makes h times a difference. The combination of the cofactors
--- makes nothing of a vector that the generators kill, and h cancels.
+-- The proofs of specs/CertificateLaws: main lemmas `difference_cleared`, `certificate_telescopes` and
+-- `certificate_telescopes_over_field`. The symbol passes d by the commutation rule, and what δ(d) leaves cancels; so H·E makes
+-- h times a difference. The combination of the cofactors makes nothing of a vector that the generators kill, and h cancels.
+-- An operator over the field is what it makes of one there.
 use Rattle.std.specs.Prelude.{◌≡◌, ◌≢◌, refl, List, [], ◌∷◌, map}
 use Rattle.std.specs.List.{All}
-use Rattle.std.proofs.Common.{sym, ◌∙◌, ap, ap₂}
+use Rattle.std.proofs.Common.{sym, ◌∙◌, ap, ap₂, subst}
 use Rattle.std.proofs.lemmas.List.Elements.{All-head, All-tail}
 use Rattle.ct_algebra.specs.Ring.{Ring}
 use Rattle.ct_algebra.specs.Ore.{Ore, Module}
-use Rattle.ct_algebra.specs.Names.{Name}
+use Rattle.ct_algebra.specs.Monomial.{Mono, monomials, products, unit}
+use Rattle.ct_algebra.specs.Names.{Name, symbols, power}
 use Rattle.ct_algebra.specs.Polynomial.{Polynomial, polys, polys_domain, times, times_is}
 use Rattle.ct_algebra.specs.Actions.{Action, Shift, Derive, Still, by_action, polynomials, sigma, delta, sigma_by, delta_by}
-use Rattle.ct_algebra.specs.Operators.{Operator, apply, EachKills}
+use Rattle.ct_algebra.specs.Operators.{Operator, combination, apply, EachKills}
+use Rattle.ct_algebra.specs.FieldOperators.{FieldOperator, field_operator_set, field_operator_group, field_term, field_operators, over_field}
+use Rattle.ct_algebra.specs.FieldLaws.{embedded}
+use Rattle.ct_algebra.specs.Sums.{lift}
+use Rattle.ct_algebra.specs.OreAlgebra.{act, one_term, op_scale-one_term}
 use Rattle.ct_algebra.specs.Field.{field, coefficients, plain}
 use Rattle.ct_algebra.specs.Restriction.{restricted_cancel, divided, scale-divided}
 use Rattle.ct_algebra.specs.Certificate.{Summand, Certificate, difference_numerator, difference_denominator, differences, Certifies}
-use Rattle.ct_algebra.specs.Telescoping.{difference, AreQuotients, sum_of_differences, Telescopes, over_polynomials}
-use Rattle.ct_algebra.specs.CertificateLaws.{DifferenceIsCleared, CertificateTelescopes}
+use Rattle.ct_algebra.specs.Telescoping.{difference, sum_of_differences, EachCleared, Telescopes, TelescopesUpTo, over_polynomials}
+use Rattle.ct_algebra.specs.CertificateLaws.{DifferenceIsCleared, CertificateTelescopes, CertificateTelescopesOverField}
 use Rattle.ct_algebra.proofs.AppliedOperators.{apply-sum, apply-negative, apply-no_operator, apply-multiple, apply-symbol_before, apply-combination}
+use Rattle.ct_algebra.proofs.ProductRule.{power-one}
 use Rattle.ct_algebra.proofs.ModuleLaws.{scale-zero_value, scale-zero, scale-neg, scale-scale}
 
 -- ---- in any module, for a coefficient d and vectors v and r
@@ -83,7 +90,7 @@ module _ (a : Name → Action) {V : Type 0} (W : Module polys (polynomials a) V)
   -- what the sum of all H·E makes is h times the sum of the differences
   apply-differences :
       (h : Polynomial) (v : V) (ss : List Summand) (ws : List V) → All (Divides h) ss →
-      AreQuotients a W v ss ws → apply a W (differences a ss) v ≡ W.scale h (sum_of_differences a W ss ws)
+      EachCleared a W (λ p. apply a W p v) ss ws → apply a W (differences a ss) v ≡ W.scale h (sum_of_differences a W ss ws)
   apply-differences h v [] [] divides exact = apply-no_operator a W v ∙ sym (scale-zero W h)
   apply-differences h v [] (w ∷ ws) divides exact = absurd exact
   apply-differences h v (s ∷ ss) [] divides exact = absurd exact
@@ -101,56 +108,90 @@ difference_cleared a W s v w exact = apply-difference_numerator a W s v w exact
 
 -- ---- in a module over the field
 
-module _ (a : Name → Action) {V : Type 0} (F : Module field (coefficients a) V) where
+module _ (a : Name → Action) {V : Type 0} (F : Module field (coefficients a) V) (v : V) where
   abbrev W : Module polys (polynomials a) V
   W = over_polynomials a F
 
-  cancels : (d : Polynomial) → d ≢ polys.zero → (v w : V) → W.scale d v ≡ W.scale d w → v ≡ w
+  abbrev made : Operator → V
+  made p = apply a W p v
+
+  cancels : (d : Polynomial) → d ≢ polys.zero → (w u : V) → W.scale d w ≡ W.scale d u → w ≡ u
   cancels = restricted_cancel polys polys_domain (polynomials a) (plain a) F
 
   abbrev Nonzero : Summand → Type 0
   Nonzero s = s.denominator ≢ polys.zero
 
-  abbrev quotient : V → Summand → V
-  quotient v s = divided polys polys_domain (polynomials a) (plain a) F s.denominator (apply a W s.numerator v)
+  abbrev quotient : Summand → V
+  quotient s = divided polys polys_domain (polynomials a) (plain a) F s.denominator (made s.numerator)
 
-  multiple_quotient : (v : V) (s : Summand) → Nonzero s → W.scale s.denominator (quotient v s) ≡ apply a W s.numerator v
-  multiple_quotient v s nonzero = scale-divided polys polys_domain (polynomials a) (plain a) F s.denominator nonzero _
+  multiple_quotient : (s : Summand) → Nonzero s → W.scale s.denominator (quotient s) ≡ made s.numerator
+  multiple_quotient s nonzero = scale-divided polys polys_domain (polynomials a) (plain a) F s.denominator nonzero _
 
-  are_quotients : (v : V) (ss : List Summand) → All Nonzero ss → AreQuotients a W v ss (map (quotient v) ss)
-  are_quotients v [] nonzero = tt
-  are_quotients v (s ∷ ss) nonzero =
-      (multiple_quotient v s (All-head Nonzero s ss nonzero), are_quotients v ss (All-tail Nonzero s ss nonzero))
+  each_cleared : (ss : List Summand) → All Nonzero ss → EachCleared a W made ss (map quotient ss)
+  each_cleared [] nonzero = tt
+  each_cleared (s ∷ ss) nonzero = (multiple_quotient s (All-head Nonzero s ss nonzero), each_cleared ss (All-tail Nonzero s ss nonzero))
 
-  quotients_unique :
-      (v : V) (ss : List Summand) (ws us : List V) → All Nonzero ss →
-      AreQuotients a W v ss ws → AreQuotients a W v ss us → ws ≡ us
-  quotients_unique v [] [] [] nonzero first second = refl
-  quotients_unique v [] (w ∷ ws) us nonzero first second = absurd first
-  quotients_unique v [] [] (u ∷ us) nonzero first second = absurd second
-  quotients_unique v (s ∷ ss) [] us nonzero first second = absurd first
-  quotients_unique v (s ∷ ss) (w ∷ ws) [] nonzero first second = absurd second
-  quotients_unique v (s ∷ ss) (w ∷ ws) (u ∷ us) nonzero first second =
+  cleared_once :
+      (ss : List Summand) (ws us : List V) → All Nonzero ss → EachCleared a W made ss ws → EachCleared a W made ss us → ws ≡ us
+  cleared_once [] [] [] nonzero first second = refl
+  cleared_once [] (w ∷ ws) us nonzero first second = absurd first
+  cleared_once [] [] (u ∷ us) nonzero first second = absurd second
+  cleared_once (s ∷ ss) [] us nonzero first second = absurd first
+  cleared_once (s ∷ ss) (w ∷ ws) [] nonzero first second = absurd second
+  cleared_once (s ∷ ss) (w ∷ ws) (u ∷ us) nonzero first second =
       ap₂ ◌∷◌ (cancels s.denominator (All-head Nonzero s ss nonzero) w u (first.0 ∙ sym second.0))
-      (quotients_unique v ss ws us (All-tail Nonzero s ss nonzero) first.1 second.1)
+      (cleared_once ss ws us (All-tail Nonzero s ss nonzero) first.1 second.1)
 
-  telescoped :
-      (summed : List Name) (generators : List Operator) (c : Certificate) (v : V) → EachKills a W generators v →
-      Certifies a summed generators c → Telescopes a W c v
-  telescoped summed generators c v killed shown = record {
-    quotients = map (quotient v) c.summands;
-    cleared = quotients;
-    no_others = λ ws others. quotients_unique v c.summands ws _ shown.denominators_nonzero others quotients;
-    telescopes = cancels c.scale shown.relation.scale_nonzero _ _
-        (sym (apply-multiple a W c.scale c.telescoper v) ∙ ap (λ p. apply a W p v) shown.relation.identity
-        ∙ apply-sum a W _ _ v
-        ∙ ap₂ W.group.◌+◌ (apply-differences a W c.scale v c.summands _ shown.relation.divides quotients)
-        (apply-combination a W c.cofactors generators v killed)
-        ∙ W.group.add_zero _);
+  telescoped_up_to :
+      (summed : List Name) (generators : List Operator) (c : Certificate) → Certifies a summed generators c →
+      TelescopesUpTo a W made generators c
+  telescoped_up_to summed generators c shown = record {
+    quotients = map quotient c.summands;
+    are_quotients = record { cleared = cleared; no_others = λ us others. cleared_once c.summands us _ shown.denominators_nonzero others cleared };
+    telescopes =
+        sym (apply-multiple a W c.scale c.telescoper v) ∙ ap made shown.relation.identity ∙ apply-sum a W _ _ v
+        ∙ ap (λ w. W.group.◌+◌ w (made (combination a c.cofactors generators)))
+        (apply-differences a W c.scale v c.summands _ shown.relation.divides cleared);
   }
     where
-      quotients : AreQuotients a W v c.summands (map (quotient v) c.summands)
-      quotients = are_quotients v c.summands shown.denominators_nonzero
+      cleared : EachCleared a W made c.summands (map quotient c.summands)
+      cleared = each_cleared c.summands shown.denominators_nonzero
+
+  telescoped :
+      (summed : List Name) (generators : List Operator) (c : Certificate) → EachKills a W generators v →
+      Certifies a summed generators c → Telescopes a W made c
+  telescoped summed generators c killed shown =
+      let up_to = telescoped_up_to summed generators c shown in record {
+        quotients = up_to.quotients;
+        are_quotients = up_to.are_quotients;
+        telescopes = cancels c.scale shown.relation.scale_nonzero _ _
+            (up_to.telescopes ∙ ap (W.group.◌+◌ _) (apply-combination a W c.cofactors generators v killed) ∙ W.group.add_zero _);
+      }
 
 pub certificate_telescopes : {V : Type 0} → CertificateTelescopes V
-certificate_telescopes a W summed generators c v killed shown = telescoped a W summed generators c v killed shown
+certificate_telescopes a W summed generators c v killed shown = telescoped a W v summed generators c killed shown
+
+-- ---- as operators over the field
+
+module _ (a : Name → Action) where
+  abbrev F : Module field (coefficients a) FieldOperator
+  F = field_operators a
+
+  term_over_field :
+      (m : Mono) (c : Polynomial) →
+      field_term m (embedded c) ≡ (over_polynomials a F).scale c (power (over_polynomials a F).D m (field_term unit field.one))
+  unfolding one_term
+  term_over_field m c =
+      ap (field_term m) (sym (field.mul_one (embedded c)))
+      ∙ sym (op_scale-one_term monomials products field (coefficients a) symbols field_operator_set (embedded c) m field.one)
+      ∙ ap (F.scale (embedded c)) (sym (power-one monomials products field (coefficients a) symbols field_operator_set m))
+
+  -- over the field an operator is what it makes of the operator one
+  over_field-is : (p : Operator) → over_field p ≡ apply a (over_polynomials a F) p (field_term unit field.one)
+  unfolding apply act
+  over_field-is p = ap (λ f. lift monomials polys.group field_operator_group f p) (λ i m c. term_over_field m c i)
+
+pub certificate_telescopes_over_field : CertificateTelescopesOverField
+certificate_telescopes_over_field a summed generators c shown =
+    subst (λ made. TelescopesUpTo a (over_polynomials a (field_operators a)) made generators c) (λ i p. sym (over_field-is a p) i)
+    (telescoped_up_to a (field_operators a) (field_term unit field.one) summed generators c shown)

@@ -4,15 +4,40 @@
 use Rattle.std.specs.Prelude.{◌≡◌, refl}
 use Rattle.std.proofs.Common.{sym, ◌∙◌, ap, ap₂}
 use Rattle.ct_algebra.specs.Monomial.{Mono, monomials, products, ◌·◌, unit}
-use Rattle.ct_algebra.specs.Names.{Name, symbol, symbols, power, power_unit, power_symbol, power-symbol, by_symbols}
+use Rattle.ct_algebra.specs.Names.{Name, symbol, symbols, power, power_unit, power-symbol}
 use Rattle.ct_algebra.specs.Polynomial.{Polynomial, polys, times}
-use Rattle.ct_algebra.specs.Actions.{Action, sigma, delta, sigma_by-one, polynomials}
-use Rattle.ct_algebra.specs.Ore.{Module, δ_one}
-use Rattle.ct_algebra.specs.OreAlgebra.{◌∘◌, one_term, op_D-one_term, op_module, op_scale-one_term, D_scale_is, D_D_is}
-use Rattle.ct_algebra.specs.Sums.{same_hom}
+use Rattle.ct_algebra.specs.Actions.{Action, sigma, delta, polynomials}
+use Rattle.ct_algebra.specs.Ore.{Ore, Module, Symbols, δ_one}
+use Rattle.ct_algebra.specs.OreAlgebra.{◌∘◌, one_term, one_term-sum, op_D, op_D-one_term, op_module, op_scale-one_term, D_scale_is, D_D_is}
+use Rattle.ct_algebra.specs.Sums.{Sum, sums_group, same_hom}
+use Rattle.ct_algebra.specs.Group.{none_added}
+use Rattle.ct_algebra.specs.Ring.{Ring}
+use Rattle.ct_algebra.specs.Terms.{Keys}
+use Rattle.ct_algebra.specs.Products.{Monoid}
 use Rattle.ct_algebra.specs.Operators.{Operator, operator_set, operator_group, term_of, sum_of_operators, product_of, symbol_before, multiple, product_of-sum_left, apply}
 use Rattle.ct_algebra.proofs.AppliedOperators.{apply-term_of, multiple-one}
-use Rattle.ct_algebra.proofs.OperatorTerms.{sums_are, none_is, term_of-single, term_of-zero}
+use Rattle.ct_algebra.proofs.OperatorTerms.{sums_are, term_of-single}
+
+-- ---- a symbol passes the coefficient one, over any ring
+
+module _ {M A I : Type 0} (O : Keys M) (N : Monoid M) (R : Ring A) (E : Ore I R) (Y : Symbols I N) (s : IsSet (Sum O R.group)) where
+  one_term-zero : (m : M) → one_term O N R E Y s m R.zero ≡ (sums_group O R.group s).zero
+  one_term-zero m =
+      none_added (sums_group O R.group s) _ (ap (one_term O N R E Y s m) (sym (R.add_zero R.zero)) ∙ one_term-sum O N R E Y s m R.zero R.zero)
+
+  pub op_D-one :
+      (i : I) (m : M) → op_D O N R E Y s i (one_term O N R E Y s m R.one) ≡ one_term O N R E Y s (N.◌·◌ (Y.symbol i) m) R.one
+  op_D-one i m =
+      op_D-one_term O N R E Y s i m R.one
+      ∙ ap₂ (sums_group O R.group s).◌+◌ (ap (one_term O N R E Y s _) (E.σ_one i))
+      (ap (one_term O N R E Y s m) (δ_one E i) ∙ one_term-zero m)
+      ∙ (sums_group O R.group s).add_zero _
+
+  pub power-one : (m : M) → Y.power (op_D O N R E Y s) m (one_term O N R E Y s N.unit R.one) ≡ one_term O N R E Y s m R.one
+  power-one =
+      Y.by_symbols (λ m. Y.power (op_D O N R E Y s) m (one_term O N R E Y s N.unit R.one) ≡ one_term O N R E Y s m R.one)
+      (Y.power_unit (op_D O N R E Y s) _)
+      (λ i m same. Y.power_symbol (op_D O N R E Y s) (D_D_is O N R E Y s) i m _ ∙ ap (op_D O N R E Y s i) same ∙ op_D-one i m)
 
 module _ (a : Name → Action) where
   -- operators as a module of operators
@@ -74,18 +99,13 @@ module _ (a : Name → Action) where
   pub one-product_of : (p : Operator) → product_of a (term_of unit polys.one) p ≡ p
   one-product_of p = product_of-polynomial polys.one p ∙ multiple-one a p
 
-  -- a symbol passes the coefficient one
   pub symbol_before-one : (i : Name) (m : Mono) → symbol_before a i (term_of m polys.one) ≡ term_of (symbol i · m) polys.one
-  symbol_before-one i m =
-      symbol_before-term_of i m polys.one
-      ∙ ap₂ sum_of_operators (ap (term_of (symbol i · m)) (sigma_by-one (a i) i)) (ap (term_of m) (δ_one (polynomials a) i) ∙ term_of-zero m)
-      ∙ sums_are _ _ ∙ ap (operator_group.◌+◌ _) none_is ∙ operator_group.add_zero _
+  unfolding symbol_before term_of one_term
+  symbol_before-one i m = op_D-one monomials products polys (polynomials a) symbols operator_set i m
 
   power-term_of : (m : Mono) → power (symbol_before a) m (term_of unit polys.one) ≡ term_of m polys.one
-  power-term_of =
-      by_symbols (λ m. power (symbol_before a) m (term_of unit polys.one) ≡ term_of m polys.one)
-      (power_unit (symbol_before a) _)
-      (λ i m same. power_symbol (symbol_before a) symbols_commute i m _ ∙ ap (symbol_before a i) same ∙ symbol_before-one i m)
+  unfolding symbol_before term_of one_term
+  power-term_of m = power-one monomials products polys (polynomials a) symbols operator_set m
 
   pub product_of-one : (p : Operator) → product_of a p (term_of unit polys.one) ≡ p
   product_of-one p =

@@ -1,7 +1,11 @@
--- What the laws of certificates say; functions of src/laws.rt prove them of the vectors V of every module.
---     DifferenceIsCleared V      where d times w is what q makes of v, E makes of v N times the difference of w
---     CertificateTelescopes V    of a vector that the generators kill, what certifies them makes a sum of differences
--- The first is about each module over the polynomials, the second about those over the field, in which d divides.
+-- What the laws of certificates say; functions of src/laws.rt prove them, the first two of the vectors V of every module.
+--     DifferenceIsCleared V            where d times w is what q makes of v, E makes of v N times the difference of w
+--     CertificateTelescopes V          of a vector that the generators kill, the telescoper makes the sum of the differences
+--                                      of what the certificates make of it
+--     CertificateTelescopesOverField   as operators over the field, h·P is h times the sum of the differences of the
+--                                      certificates, and the combination of the cofactors with the generators
+-- The first is about each module over the polynomials, the second about those over the field. The third says the same of
+-- operators, for whatever they act on: P less the sum of the differences of q/d is in the left ideal of the generators.
 use Rattle.std.specs.Prelude.{◌≡◌, List}
 use Rattle.ct_algebra.specs.Names.{Name}
 use Rattle.ct_algebra.specs.Polynomial.{polys}
@@ -9,8 +13,9 @@ use Rattle.ct_algebra.specs.Actions.{Action, polynomials}
 use Rattle.ct_algebra.specs.Ore.{Module}
 use Rattle.ct_algebra.specs.Operators.{Operator, apply, EachKills}
 use Rattle.ct_algebra.specs.Field.{field, coefficients}
+use Rattle.ct_algebra.specs.FieldOperators.{field_operators, over_field}
 use Rattle.ct_algebra.specs.Certificate.{Summand, Certificate, difference_numerator, difference_denominator, Certifies}
-use Rattle.ct_algebra.specs.Telescoping.{difference, Telescopes, over_polynomials}
+use Rattle.ct_algebra.specs.Telescoping.{difference, Telescopes, TelescopesUpTo, over_polynomials}
 
 abbrev pub DifferenceIsCleared : Type 0 → Type 0
 DifferenceIsCleared V =
@@ -22,4 +27,9 @@ abbrev pub CertificateTelescopes : Type 0 → Type 0
 CertificateTelescopes V =
     (a : Name → Action) (W : Module field (coefficients a) V) (summed : List Name) (generators : List Operator) (c : Certificate)
     (v : V) → EachKills a (over_polynomials a W) generators v → Certifies a summed generators c →
-    Telescopes a (over_polynomials a W) c v
+    Telescopes a (over_polynomials a W) (λ p. apply a (over_polynomials a W) p v) c
+
+abbrev pub CertificateTelescopesOverField : Type 0
+CertificateTelescopesOverField =
+    (a : Name → Action) (summed : List Name) (generators : List Operator) (c : Certificate) →
+    Certifies a summed generators c → TelescopesUpTo a (over_polynomials a (field_operators a)) over_field generators c

@@ -20,6 +20,7 @@ pub mod Field
 -- what a certificate shows
 pub mod Certificate
 pub mod Restriction
+pub mod FieldOperators
 pub mod Telescoping
 -- what the laws say that the functions of src/laws.rt prove
 pub mod MonomialLaws
