@@ -75,7 +75,7 @@ pub record DividesFactors (d e : Denominator) : Type 0 where
   pub whole : d.whole ∣ e.whole
   pub factors : EachIsIn d.factors e.factors
 
--- n times f, so many times, one factor at a time
+-- n times the power of f, one factor at a time
 abbrev pub checked_often : Polynomial → ℕ → Polynomial → Checked Polynomial
 checked_often f zero n = Ok n
 checked_often f (suc k) n = checked_times n f >>= (λ m. checked_often f k m)

@@ -1,5 +1,5 @@
 -- How a fraction is brought to its written form (this project's own rules).
---     divided_out f n e      n and the exponent e, after n is divided by f as often as it can be, at most e times
+--     divided_out f n e      n and the exponent e, after n is divided by f as many times as possible, at most e times
 --     lowered n done fs      the same for each factor in order; one whose exponent is left stays, after those of `done`
 --     normal n d             n over d: lowered, then numerator and whole number divided by their greatest common divisor
 --     inserted f fs          one more factor in a rising list

@@ -5,7 +5,7 @@
 --     checked_delta i w    the derivative by the name i: with g the product of those factors, each taken once, and N the
 --                          numerator, N'·g less (N·e)·f'·(g without f) for each of them, f with the exponent e; then
 --                          their exponents rise by 1
--- σ of a derivation changes nothing and δ of a shift is zero: neither is worked. The first step that overflows decides
+-- σ of a derivation changes nothing and δ of a shift is zero: neither is computed here. The first step that overflows decides
 -- the kind. Each has the value of σ or δ of the field: `ShiftedFactors`, `DerivedFractions`.
 use Rattle.std.specs.Prelude.{◌+◌, pos, Bool, cond, ltb, Ok, List, [], ◌∷◌, ◌++◌}
 use Rattle.std.specs.List.{list_any}

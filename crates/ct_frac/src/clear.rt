@@ -10,7 +10,7 @@ use crate::insertion::exponent_of;
 use ct_poly::{Fault, Poly};
 use std::alloc::Global;
 
-// The numerator over a denominator that that of the fraction divides.
+// The numerator over a denominator that the fraction's own one divides.
 #[tactic(auto, unfolding(crate::specs::Arithmetic::checked_cleared))]
 pub fn cleared(alloc: Global, f: &Frac, den: &Den) -> Result<Poly, Fault>
     ensures { Answers (checked_cleared f.now den.now) result }
@@ -39,7 +39,7 @@ fn spread(alloc: Global, n: Poly, from: &[Factor], to: &[Factor]) -> Result<Poly
     Ok(product)
 }
 
-// A polynomial times another, so many times.
+// A polynomial times a power of another, one factor at a time.
 fn times_often(alloc: Global, n: Poly, by: &Poly, times: u32) -> Result<Poly, Fault>
     ensures { Answers (checked_often by.now times n) result }
 {

@@ -49,10 +49,11 @@ impl Den {
         self.factors.as_slice()
     }
 
-    /// Each denominator is in written form.
+    /// Each denominator is in written form. A call tests nothing: it recalls this to the proof of its caller.
     pub fn in_written_form(&self)
         ensures { IsDenominator self.now }
     {
+        // Where a field is read, the proof knows the invariant of the type.
         let _ = &self.whole;
     }
 }

@@ -57,7 +57,7 @@ impl Frac {
         })
     }
 
-    /// A polynomial over a denominator, where each factor is divided out as often as it goes.
+    /// A polynomial over a denominator, where each factor is divided out as many times as possible.
     pub fn over(alloc: Global, n: Poly, den: &Den) -> Result<Frac, NoMemory>
         ensures written { IfOk result (λ r. r ≡ normal n den.now) }
         ensures value { IfOk result (λ r. value r ≡ value_over n (multiplied_out den.now)) }
@@ -87,7 +87,7 @@ impl Frac {
         &self.den
     }
 
-    /// Each fraction is in written form.
+    /// Each fraction is in written form, which a call recalls as for a denominator.
     pub fn in_written_form(&self)
         ensures { IsWritten self.now }
     {

@@ -2,7 +2,7 @@
 --     Checked A         the outcome of a computation whose steps can overflow
 --     c >>= f           first c, then f of its value; the first overflow ends it: `do` blocks give the order of steps
 --     verdict o x       x, unless a rule on the operands names a kind
---     Answers c r       what a call may answer to the computation c: its value, its kind, or want of memory
+--     Answers c r       what a call may answer to the computation c: its value, its kind, or that memory ran out
 --     AnswersBy f c r   the same for a result that is seen through f
 -- Want of memory answers every computation; nothing else is left open. Cited by every call that can overflow.
 use Rattle.std.specs.Prelude.{◌≡◌, Ok, Err, None, Some, refl}

@@ -14,7 +14,7 @@ use Rattle.ct_algebra.specs.WholeNumbers.{int_group}
 use Rattle.ct_algebra.proofs.TermLists.{row_of}
 use Rattle.ct_mono.proofs.ExponentLaws.{one_exponent, total-unit, total-with_exponent}
 use Rattle.ct_poly.specs.declared.term.Term.{Term}
-use Rattle.ct_poly.specs.Terms.{entries, degree_of}
+use Rattle.ct_poly.specs.Terms.{entries, greatest_total}
 use Rattle.ct_poly.specs.Powers.{binomial, power_of, IsPower}
 use Rattle.ct_poly.proofs.TermLists.{terms_of, length-entries, terms-multiple, positive_coef}
 
@@ -63,7 +63,7 @@ module _ (i : ℕ) (known : i < 6) where
   each_few e [] each falling = omega arith
   each_few e (f ∷ es) each falling = omega (arith, few_raised e f.0 f.1 es each.0 each.1 falling.1 falling.2, each.0.within)
 
-  each_low : (e : ℕ) (ts : List Term) → EachTerm (λ m c. IsRaised i e m) (entries ts) → degree_of ts ≤ e
+  each_low : (e : ℕ) (ts : List Term) → EachTerm (λ m c. IsRaised i e m) (entries ts) → greatest_total ts ≤ e
   each_low e [] each = omega arith
   each_low e (t ∷ ts) each = omega (arith, each_low e ts each.1, each.0.within, ap total each.0.is ∙ total-raised each.0.exponent)
 
@@ -110,5 +110,5 @@ module _ (i : ℕ) (known : i < 6) where
       pub power_few : length row ≤ e + 1
       power_few = omega (arith, each_few e (entries row) row_raised power.falling, length-entries row)
 
-      pub power_low : degree_of row ≤ e
+      pub power_low : greatest_total row ≤ e
       power_low = each_low e row row_raised

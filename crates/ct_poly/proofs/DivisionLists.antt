@@ -14,7 +14,7 @@ use Rattle.ct_poly.specs.Division.{Dividing, leading_over, step_of}
 use Rattle.ct_poly.specs.Measures.{minus}
 use Rattle.ct_poly.specs.Terms.{entries, entry, size_of, IsFalling, IsListOf, CanMultiply, poly_of_terms}
 use Rattle.ct_poly.proofs.DivisionSteps.{IsNext, next_parts, rest_value, coef_nonzero}
-use Rattle.ct_poly.proofs.TermLists.{terms_of, poly_of-one, nonzero_coef, degree_of-falling}
+use Rattle.ct_poly.proofs.TermLists.{terms_of, poly_of-one, nonzero_coef, greatest_total-falling}
 
 -- what a term adds to the size of a list
 abbrev size : Term → ℕ
@@ -56,7 +56,7 @@ module _ {rest below divisor others : List Term} {top lead u : Term} (rest_is : 
       record {
         first = (nonzero_coef z (λ none. coef_nonzero (poly_of_terms divisor) state (entry u) is_next (omega (arith, ints, z_is, none))), tt, tt);
         second = by_falls.2;
-        degrees = omega (arith, low, ap total parts.0, total-· u.mono lead.mono, degree_of-falling (lead ∷ others) by_falls);
+        degrees = omega (arith, low, ap total parts.0, total-· u.mono lead.mono, greatest_total-falling (lead ∷ others) by_falls);
         sizes = omega (arith, small, sizes, sum_by-cons size (record { mono = u.mono; coef = z }) [], ap size_of by_is, sum_by-cons size lead others, ap (λ n. n * size_of others) sizes, ap (λ n. nat_abs u.coef * n) (ap size_of by_is ∙ sum_by-cons size lead others));
       }
 

@@ -17,7 +17,7 @@ use Rattle.ct_mono.specs.Limits.{largest_degree, largest_norm}
 use Rattle.ct_mono.proofs.ExponentLaws.{total-unit, total-with_exponent}
 use Rattle.ct_poly.specs.declared.term.Term.{Term}
 use Rattle.ct_poly.specs.Powers.{binomial, IsPower}
-use Rattle.ct_poly.specs.Terms.{size_of, degree_of, shift_size, greatest_exp, IsFalling, IsListOf, CanMultiply, poly_of_terms}
+use Rattle.ct_poly.specs.Terms.{size_of, greatest_total, shift_size, greatest_exp, IsFalling, IsListOf, CanMultiply, poly_of_terms}
 use Rattle.ct_poly.proofs.BinomialPowers.{power_low, total-symbol}
 use Rattle.ct_poly.proofs.TermLists.{poly_of-one, poly_of-cons, positive_coef}
 
@@ -44,8 +44,8 @@ module _ (i : ℕ) (known : i < 6) (a : ℕ) (positive : 0 < a) where
       small = omega (arith, sum_by-cons size t (u ∷ []), sum_by-cons size u [], ap nat_abs t_coef, ap nat_abs u_coef);
     })
 
-    pub binomial_low : degree_of v ≤ 1
-    binomial_low = omega (arith, ap degree_of both, ap total u_mono, total-unit, ap total t_mono, total-symbol i known)
+    pub binomial_low : greatest_total v ≤ 1
+    binomial_low = omega (arith, ap greatest_total both, ap total u_mono, total-unit, ap total t_mono, total-symbol i known)
 
   -- ---- rows
 
@@ -56,7 +56,7 @@ module _ (i : ℕ) (known : i < 6) (a : ℕ) (positive : 0 < a) where
     small = omega (arith, sum_by-cons size t [], ap nat_abs coef, pow-zero (1 + a));
   })
 
-  module _ (b row : List Term) (e : ℕ) (list : IsListOf (binomial i a) 2 (1 + a) b) (low : degree_of b ≤ 1) (power : IsPower i a e row) where
+  module _ (b row : List Term) (e : ℕ) (list : IsListOf (binomial i a) 2 (1 + a) b) (low : greatest_total b ≤ 1) (power : IsPower i a e row) where
     sizes : size_of b * size_of row ≤ (1 + a) ^ suc e
     sizes = omega (arith, mul-le-mul_right (size_of row) list.small, mul-le-mul_left (1 + a) power.small, pow-succ' (1 + a) e)
 
@@ -127,6 +127,6 @@ greatest_small i a (t ∷ ts) falling = by (leb (exp t.mono i) (greatest_exp i t
         let is : max (exp t.mono i) (greatest_exp i ts) ≡ exp t.mono i = omega (arith, order) in
         omega (arith, ap (λ n. (1 + a) ^ n) is, mine, sizes)
 
-pub greatest_low : (i : ℕ) (ts : List Term) → i < 6 → greatest_exp i ts ≤ degree_of ts
+pub greatest_low : (i : ℕ) (ts : List Term) → i < 6 → greatest_exp i ts ≤ greatest_total ts
 greatest_low i [] known = omega arith
 greatest_low i (t ∷ ts) known = omega (arith, greatest_low i ts known, total-with_exponent i 0 t.mono known)

@@ -11,7 +11,7 @@ use Rattle.ct_algebra.specs.Polynomial.{polys, poly_of, norm_of, plus, times, ti
 use Rattle.ct_algebra.proofs.TermLists.{poly_of-none, poly_of-row, times-append, row_canonical, row_of}
 use Rattle.ct_mono.specs.Limits.{largest_norm}
 use Rattle.ct_poly.specs.declared.term.Term.{Term}
-use Rattle.ct_poly.specs.Terms.{entries, entry, size_of, degree_of, IsListOf, CanMultiply, poly_of_terms}
+use Rattle.ct_poly.specs.Terms.{entries, entry, size_of, greatest_total, IsListOf, CanMultiply, poly_of_terms}
 use Rattle.ct_poly.proofs.TermLists.{no_length, entries-append, length-entries, norm_of-entries, norm_of-row, length-row}
 use Rattle.ct_poly.proofs.Termwise.{made_of}
 
@@ -80,9 +80,9 @@ product_of_one ps qs v t one l =
       small = omega (arith, l.small, ap (λ n. n * size_of qs) (size_of-one t));
     })
 
-pub degree_of-append : (ps qs : List Term) → degree_of (ps ++ qs) ≡ max (degree_of ps) (degree_of qs)
-degree_of-append [] qs = omega arith
-degree_of-append (p ∷ ps) qs = omega (arith, degree_of-append ps qs)
+pub greatest_total-append : (ps qs : List Term) → greatest_total (ps ++ qs) ≡ max (greatest_total ps) (greatest_total qs)
+greatest_total-append [] qs = omega arith
+greatest_total-append (p ∷ ps) qs = omega (arith, greatest_total-append ps qs)
 
 module _ (ps front back qs : List Term) (parts : ps ≡ front ++ back) (can : CanMultiply ps qs) where
   falling_parts : IsCanonical monomials int_group (entries front ++ entries back)
@@ -95,7 +95,7 @@ module _ (ps front back qs : List Term) (parts : ps ≡ front ++ back) (can : Ca
   can_front = record {
     first = front_canonical monomials int_group (entries front) (entries back) falling_parts;
     second = can.second;
-    degrees = omega (arith, can.degrees, ap degree_of parts, degree_of-append front back);
+    degrees = omega (arith, can.degrees, ap greatest_total parts, greatest_total-append front back);
     sizes = omega (arith, can.sizes, sizes_of_parts);
   }
 
@@ -103,7 +103,7 @@ module _ (ps front back qs : List Term) (parts : ps ≡ front ++ back) (can : Ca
   can_back = record {
     first = back_canonical monomials int_group (entries front) (entries back) falling_parts;
     second = can.second;
-    degrees = omega (arith, can.degrees, ap degree_of parts, degree_of-append front back);
+    degrees = omega (arith, can.degrees, ap greatest_total parts, greatest_total-append front back);
     sizes = omega (arith, can.sizes, sizes_of_parts);
   }
 

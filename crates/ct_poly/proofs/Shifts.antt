@@ -16,9 +16,9 @@ use Rattle.ct_poly.specs.declared.term.Term.{Term}
 use Rattle.ct_poly.specs.declared.shift.Powers.{Powers}
 use Rattle.ct_poly.specs.Measures.{shifted}
 use Rattle.ct_poly.specs.Powers.{IsPower, CanShift}
-use Rattle.ct_poly.specs.Terms.{entries, size_of, degree_of, greatest_exp, shift_size, shift_length, IsFalling, IsListOf, CanMultiply, poly_of_terms}
+use Rattle.ct_poly.specs.Terms.{entries, size_of, greatest_total, greatest_exp, shift_size, shift_length, IsFalling, IsListOf, CanMultiply, poly_of_terms}
 use Rattle.ct_poly.proofs.BinomialPowers.{power_few, power_low}
-use Rattle.ct_poly.proofs.Products.{size_of-one, degree_of-append}
+use Rattle.ct_poly.proofs.Products.{size_of-one, greatest_total-append}
 use Rattle.ct_poly.proofs.ShiftValues.{shifted-sum, shifted-zero, shifted-term}
 use Rattle.ct_poly.proofs.TermLists.{no_length, entries-append, poly_of-one, poly_of-none, poly_of-append}
 
@@ -84,7 +84,7 @@ module _ (table : Powers) (ts front back : List Term) (parts : ts ≡ front ++ b
   pub can_shift_front : CanShift table front
   can_shift_front = record {
     falling = front_canonical monomials int_group (entries front) (entries back) falling_parts;
-    low = omega (arith, can.low, ap degree_of parts, degree_of-append front back);
+    low = omega (arith, can.low, ap greatest_total parts, greatest_total-append front back);
     small = omega (arith, can.small, sizes_of_parts);
     reaches = omega (arith, can.reaches, ap (greatest_exp table.name) parts, greatest_exp-append table.name front back);
   }
@@ -92,7 +92,7 @@ module _ (table : Powers) (ts front back : List Term) (parts : ts ≡ front ++ b
   pub can_shift_back : CanShift table back
   can_shift_back = record {
     falling = back_canonical monomials int_group (entries front) (entries back) falling_parts;
-    low = omega (arith, can.low, ap degree_of parts, degree_of-append front back);
+    low = omega (arith, can.low, ap greatest_total parts, greatest_total-append front back);
     small = omega (arith, can.small, sizes_of_parts);
     reaches = omega (arith, can.reaches, ap (greatest_exp table.name) parts, greatest_exp-append table.name front back);
   }

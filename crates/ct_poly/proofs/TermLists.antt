@@ -17,7 +17,7 @@ use Rattle.ct_algebra.specs.Substitution.{term, term_is}
 use Rattle.ct_algebra.specs.Polynomial.{Polynomial, polys, poly_of, times, count, norm, norm_of, degree, terms-poly_of}
 use Rattle.ct_algebra.specs.Polynomial as poly
 use Rattle.ct_poly.specs.declared.term.Term.{Term}
-use Rattle.ct_poly.specs.Terms.{entries, entry, size_of, degree_of, IsFalling, poly_of_terms}
+use Rattle.ct_poly.specs.Terms.{entries, entry, size_of, greatest_total, IsFalling, poly_of_terms}
 
 -- a falling list is the terms of its polynomial
 pub terms_of : {p : Polynomial} (ts : List Term) → IsFalling ts → poly_of_terms ts ≡ p → entries ts ≡ p.terms
@@ -118,11 +118,11 @@ same_entry a b o coefs compared =
     is_Equal Greater h = cc
 
 -- the greatest total of a falling list is that of its first term
-pub degree_of-falling : (ts : List Term) → IsFalling ts → degree_of ts ≡ poly.degree_of (entries ts)
-degree_of-falling [] falling = refl
-degree_of-falling (t ∷ ts) falling = omega (arith, lower t.mono ts falling.1)
+pub greatest_total-falling : (ts : List Term) → IsFalling ts → greatest_total ts ≡ poly.degree_of (entries ts)
+greatest_total-falling [] falling = refl
+greatest_total-falling (t ∷ ts) falling = omega (arith, lower t.mono ts falling.1)
   where
-    lower : (m : Mono) (ts : List Term) → AllBelow monomials int_group m (entries ts) → degree_of ts ≤ total m
+    lower : (m : Mono) (ts : List Term) → AllBelow monomials int_group m (entries ts) → greatest_total ts ≤ total m
     lower m [] below = omega arith
     lower m (t ∷ ts) below = omega (arith, total_of_less t.mono m (less_is monomials int_group _ below.0), lower m ts below.1)
 

@@ -7,7 +7,7 @@ use Rattle.std.proofs.Common.{◌≡◌, ℕ, ◌≤◌, List, [], ◌∷◌, �
 use Rattle.std.proofs.lemmas.List.Sums.{sum_by-cons}
 use Rattle.ct_algebra.specs.Monomial.{total}
 use Rattle.ct_poly.specs.declared.term.Term.{Term}
-use Rattle.ct_poly.specs.Terms.{degree_of}
+use Rattle.ct_poly.specs.Terms.{greatest_total}
 use Rattle.ct_poly.proofs.TermLists.{no_length}
 
 abbrev pub made_of : (Term → List Term) → List Term → List Term
@@ -17,7 +17,7 @@ made_of f (t ∷ ts) = f t ++ made_of f ts
 pub record IsMaking (f : Term → List Term) (ts done rest : List Term) : Type 0 where
   pub made : done ++ made_of f rest ≡ made_of f ts
   pub weights : (w : Term → ℕ) → sum_by w rest ≤ sum_by w ts
-  pub degrees : degree_of rest ≤ degree_of ts
+  pub degrees : greatest_total rest ≤ greatest_total ts
 
 pub making_more :
     {f : Term → List Term} {ts done more rest rest' : List Term} {t : Term} → rest ≡ t ∷ rest' → more ≡ done ++ f t →
@@ -39,5 +39,5 @@ making_ended {f} {ts} {done} {rest} empty m =
 
 pub head_low :
     {f : Term → List Term} {ts done rest rest' : List Term} {t : Term} → rest ≡ t ∷ rest' → IsMaking f ts done rest →
-    total t.mono ≤ degree_of ts
-head_low rest_is m = omega (arith, m.degrees, ap degree_of rest_is)
+    total t.mono ≤ greatest_total ts
+head_low rest_is m = omega (arith, m.degrees, ap greatest_total rest_is)

@@ -1,6 +1,5 @@
 -- From the list that an operation has made to the polynomial that it answers: what the type asks of the list, and the
--- value. Main lemmas `list_is_kept`, `term_is_kept`, `sum_is`, `difference_answers` and `product_answers`, which the
--- methods of `Poly` cite.
+-- value. Main lemmas `list_is_kept`, `sum_is`, `difference_answers` and `product_answers`, which the methods of `Poly` cite.
 use Rattle.std.proofs.Common.{◌≡◌, refl, ℕ, ◌+◌, ◌*◌, ◌^◌, ◌≤◌, ◌<◌, ℤ, pos, zero, suc, nat_abs, List, [], ◌∷◌, length, sum_by, sym, ◌∙◌, ap, ap₂, subst, arith, None, Ok, Err, mul-pos, ◌⊎◌, inl, inr}
 use Rattle.std.proofs.Math.Nat.{pow-zero, pow-succ'}
 use Rattle.std.proofs.lemmas.List.Sums.{sum_by-cons}
@@ -20,7 +19,7 @@ use Rattle.ct_poly.specs.Terms.{size_of, IsFalling, IsListOf, CanMultiply, poly_
 use Rattle.ct_poly.specs.Measures.{minus, sum_overflow, product_overflow, checked_minus, checked_times, derivative_norm, checked_derived, shifted, shift_norm, shift_count, shift_overflow, checked_shifted}
 use Rattle.ct_poly.proofs.OverflowRules.{ProductFits, sum_fits_only, product_fits_only, product_with_zero, derivative_too_large, derivative_fits, shift_too_many, shift_too_large, shift_fits, shift_by_none_fits}
 use Rattle.ct_poly.proofs.ShiftValues.{shifted_by_none}
-use Rattle.ct_poly.proofs.TermLists.{count_of-terms, norm_of-terms, degree_of-terms, degree_of-falling, poly_of-one, terms_of, sum_by-entries, place-name_with, nonzero_coef}
+use Rattle.ct_poly.proofs.TermLists.{count_of-terms, norm_of-terms, degree_of-terms, greatest_total-falling, poly_of-one, terms_of, sum_by-entries, place-name_with, nonzero_coef}
 
 -- the list of a polynomial, as the type keeps it
 abbrev pub IsKept : Polynomial → List Term → Type 0
@@ -114,7 +113,7 @@ module _ {p q : Polynomial} (ps qs : List Term) (mine : IsKept p ps) (its : IsKe
     can_multiply = record {
       first = mine.falling;
       second = its.falling;
-      degrees = omega (arith, fits.low, degree_of-falling ps mine.falling, degree_of-falling qs its.falling, degree_of-terms ps mine.falling mine.value, degree_of-terms qs its.falling its.value);
+      degrees = omega (arith, fits.low, greatest_total-falling ps mine.falling, greatest_total-falling qs its.falling, degree_of-terms ps mine.falling mine.value, degree_of-terms qs its.falling its.value);
       sizes = omega (arith, fits.small, ap₂ ◌*◌ norms.0 norms.1);
     }
 

@@ -3,7 +3,7 @@
 --     poly_of_terms ts   the polynomial that any list of terms adds up to
 --     IsFalling ts       monomials fall, and no coefficient is zero: the written form of a polynomial
 --     size_of ts         the sum of the absolute values of the coefficients
---     degree_of ts       the greatest total;  greatest_exp i ts   the greatest exponent of a name
+--     greatest_total ts  of a monomial;  greatest_exp i ts   the greatest exponent of a name
 --     derivative_size i ts, shift_size i a ts, shift_length i ts   what the rules of derivatives and shifts add up
 --     IsListOf p n s v   v lists the terms of p, has at most n of them, and its size is at most s
 --     CanMultiply ps qs  what the product of two lists asks
@@ -30,9 +30,9 @@ IsFalling ts = IsCanonical monomials int_group (entries ts)
 abbrev pub size_of : List Term → ℕ
 size_of ts = sum_by (λ t. nat_abs t.coef) ts
 
-abbrev pub degree_of : List Term → ℕ
-degree_of [] = 0
-degree_of (t ∷ ts) = max (total t.mono) (degree_of ts)
+abbrev pub greatest_total : List Term → ℕ
+greatest_total [] = 0
+greatest_total (t ∷ ts) = max (total t.mono) (greatest_total ts)
 
 -- the sum of coefficient times exponent at a name
 abbrev pub derivative_size : ℕ → List Term → ℕ
@@ -62,5 +62,5 @@ pub record IsListOf (p : Polynomial) (count size : ℕ) (v : List Term) : Type 0
 pub record CanMultiply (ps qs : List Term) : Type 0 where
   pub first : IsFalling ps
   pub second : IsFalling qs
-  pub degrees : degree_of ps + degree_of qs ≤ largest_degree
+  pub degrees : greatest_total ps + greatest_total qs ≤ largest_degree
   pub sizes : size_of ps * size_of qs ≤ largest_norm

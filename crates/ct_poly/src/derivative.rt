@@ -3,7 +3,7 @@ ghost use Rattle.std.specs.Prelude.{◌≡◌, ◌-◌, ◌^◌, ◌<◌, ◌≤
 ghost use Rattle.ct_algebra.specs.Derivative.{derived};
 ghost use Rattle.ct_algebra.specs.Names.{name_with};
 ghost use Rattle.ct_mono.specs.Limits.{largest_degree, largest_norm};
-ghost use Rattle.ct_poly.specs.Terms.{IsFalling, IsListOf, poly_of_terms, degree_of, derivative_size};
+ghost use Rattle.ct_poly.specs.Terms.{IsFalling, IsListOf, poly_of_terms, greatest_total, derivative_size};
 
 use crate::product::product_of_coefs;
 use crate::term::Term;
@@ -30,7 +30,7 @@ pub(crate) fn derivative_size_of_terms(ts: &[Term], i: u8) -> u128
 pub(crate) fn derivative_of_terms(alloc: Global, ts: &[Term], i: u8) -> Result<Vec<Term>, NoMemory>
     requires known { i < 6 }
     requires falling { IsFalling ts.now }
-    requires low { degree_of ts.now ≤ largest_degree }
+    requires low { greatest_total ts.now ≤ largest_degree }
     requires small { derivative_size i ts.now ≤ largest_norm }
     ensures { let value = derived (name_with i) (poly_of_terms ts.now) in
         IfOk result (λ v. IsListOf value (length ts.now) (derivative_size i ts.now) v.items) }

@@ -1,5 +1,5 @@
 // Polynomials: lists of terms with falling monomials and no zero coefficient.
-ghost use Rattle.std.specs.Prelude.{◌≡◌, ◌+◌, ◌*◌, ◌<◌, ◌≤◌, ◌≤ℤ◌, ◌↔◌, IfOk, IsTrue, None, false, pos, negsuc, unsigned_abs, length};
+ghost use Rattle.std.specs.Prelude.{◌≡◌, ◌+◌, ◌*◌, ◌<◌, ◌≤◌, ◌≤ℤ◌, ◌↔◌, IfOk, IsTrue, None, false, pos, neg_ℤ, unsigned_abs, length};
 ghost use Rattle.ct_algebra.specs.FreeOf.{IsFreeOf};
 ghost use Rattle.ct_algebra.specs.Names.{name_with};
 ghost use Rattle.ct_algebra.specs.Polynomial.{polys, plus, count, norm};
@@ -52,7 +52,7 @@ impl Poly {
 
     /// The polynomial of one number.
     pub fn constant(alloc: Global, c: i128) -> Result<Poly, NoMemory>
-        requires { negsuc 170141183460469231731687303715884105726 ≤ℤ c }
+        requires { neg_ℤ (pos largest_norm) ≤ℤ c }
         ensures value { IfOk result (λ p. p ≡ number c) }
     {
         Poly::of_term(alloc, &Monomial::one(), c)
@@ -94,11 +94,12 @@ impl Poly {
         Poly { terms }
     }
 
-    /// Each polynomial is within the limits.
+    /// Each polynomial is within the limits. A call tests nothing: it recalls this to the proof of its caller.
     pub fn within_limits(&self)
         ensures few { count self.now ≤ most_terms }
         ensures small { norm self.now ≤ largest_norm }
     {
+        // Where a field is read, the proof knows the invariant of the type.
         let _ = &self.terms;
     }
 

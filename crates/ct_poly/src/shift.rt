@@ -4,8 +4,8 @@ ghost use Rattle.std.specs.Prelude.{◌≡◌, ◌+◌, ◌-◌, ◌^◌, ◌<�
 ghost use Rattle.ct_algebra.specs.Names.{name_with};
 ghost use Rattle.ct_mono.specs.Limits.{largest_degree, largest_norm, most_terms};
 ghost use Rattle.ct_poly.specs.Measures.{shifted};
-ghost use Rattle.ct_poly.specs.Powers.{binomial, IsTable, CanShift};
-ghost use Rattle.ct_poly.specs.Terms.{IsFalling, IsListOf, poly_of_terms, degree_of, shift_size, shift_length, greatest_exp};
+ghost use Rattle.ct_poly.specs.Powers.{binomial, IsPowerTable, CanShift};
+ghost use Rattle.ct_poly.specs.Terms.{IsFalling, IsListOf, poly_of_terms, greatest_total, shift_size, shift_length, greatest_exp};
 
 use crate::product::{multiple_of_terms, product_of_terms};
 use crate::sum::sum_of_terms;
@@ -58,7 +58,7 @@ pub(crate) fn shifted_terms(
     requires known { i < 6 }
     requires positive { 0 < by }
     requires falling { IsFalling ts.now }
-    requires low { degree_of ts.now ≤ largest_degree }
+    requires low { greatest_total ts.now ≤ largest_degree }
     requires small { shift_size i by ts.now ≤ largest_norm }
     ensures { let value = shifted (name_with i) by (poly_of_terms ts.now) in
         IfOk result (λ v. IsListOf value (shift_length i ts.now) (shift_size i by ts.now) v.items) }
@@ -85,7 +85,7 @@ fn powers_up_to(alloc: Global, i: u8, by: u16, highest: u16) -> Result<Powers, N
     requires positive { 0 < by }
     requires low { highest ≤ largest_degree }
     requires small { (1 + by) ^ highest ≤ largest_norm }
-    ensures table { IfOk result (λ table. IsTable table) }
+    ensures table { IfOk result (λ table. IsPowerTable table) }
     ensures same { IfOk result (λ table. (table.name ≡ i) × (table.by ≡ by)) }
     ensures rows { IfOk result (λ table. length table.rows.items ≡ highest + 1) }
 {
@@ -103,7 +103,7 @@ fn binomial_terms(alloc: Global, i: u8, by: u16) -> Result<Vec<Term>, NoMemory>
     requires known { i < 6 }
     requires positive { 0 < by }
     ensures list { IfOk result (λ v. IsListOf (binomial i by) 2 (1 + by) v.items) }
-    ensures low { IfOk result (λ v. degree_of v.items ≤ 1) }
+    ensures low { IfOk result (λ v. greatest_total v.items ≤ 1) }
 {
     let mut list = Vec::with_capacity(alloc, 2)?;
     list.push(Term {
@@ -118,7 +118,7 @@ fn binomial_terms(alloc: Global, i: u8, by: u16) -> Result<Vec<Term>, NoMemory>
 }
 
 fn shifted_by_halves(alloc: Global, ts: &[Term], table: &Powers) -> Result<Vec<Term>, NoMemory>
-    requires table { IsTable table.now }
+    requires table { IsPowerTable table.now }
     requires can { CanShift table.now ts.now }
     ensures { let i = table.now.name in
         let value = shifted (name_with i) table.now.by (poly_of_terms ts.now) in
@@ -137,7 +137,7 @@ fn shifted_by_halves(alloc: Global, ts: &[Term], table: &Powers) -> Result<Vec<T
 }
 
 fn shifted_term(alloc: Global, t: &Term, table: &Powers) -> Result<Vec<Term>, NoMemory>
-    requires table { IsTable table.now }
+    requires table { IsPowerTable table.now }
     requires can { CanShift table.now (t.now ∷ []) }
     ensures { let i = table.now.name in
         let one = t.now ∷ [] in

@@ -1,4 +1,4 @@
-use Rattle.std.proofs.Common.{◌≡◌, sym, ◌∙◌, ap, ap₂, arith}
+use Rattle.std.proofs.Common.{◌≡◌, sym, ◌∙◌, ap, ap₂, arith, rules}
 use Rattle.std.proofs.lemmas.Result.{IfOk-weaker}
 use Rattle.std.specs.List.{insert}
 use Rattle.ct_frac.specs.Code.{find_place, exponent_set}
@@ -19,7 +19,7 @@ pub returns-in-At : goal.returns-in-At
 returns-in-At c =
     let h = found_at 0 _ _ c.args.f.now c.args.factors.items (sym (c.found.ensures ∙ ap (find_place 0 c.args.f.now.poly) c.as_slice.ensures.value) ∙ c.in-At.is) in
     let same : c.in-At.place ≡ h.place = omega (arith, h.counted) in
-    c.with_exp_at.ensures ∙ ap₂ (exponent_set c.args.factors.items) same c.max.ensures ∙ sym h.greatest
+    c.with_exp_at.ensures ∙ ap₂ (exponent_set c.args.factors.items) same (search rules) ∙ sym h.greatest
 
 pub returns-in-Before : goal.returns-in-Before
 returns-in-Before c =

@@ -1,5 +1,5 @@
 use Rattle.std.proofs.Common.{arith}
-use Rattle.ct_poly.proofs.TermLists.{degree_of-falling}
+use Rattle.ct_poly.proofs.TermLists.{greatest_total-falling}
 use Rattle.ct_poly.proofs.Values.{kept, shift_by_none_answers, shift_refused_terms, shift_refused_number, shift_answers}
 use Rattle.ct_poly.proofs.poly.Poly.shift.Goals as goal
 
@@ -21,7 +21,7 @@ returns-then-shift_size_of_terms-gt-LARGEST_NORM c =
 pub shifted_terms-requires-clause-low : goal.shifted_terms-requires-clause-low
 shifted_terms-requires-clause-low c =
     let mine = kept c.as_slice-list.result.now c.self.inside.terms.items c.as_slice-list.ensures.value c.self.invariant c.self.view_is in
-    omega (arith, degree_of-falling c.as_slice-list.result.now mine.falling, c.degree_of_terms.ensures.value, c.degree_of_terms.ensures.within)
+    omega (arith, greatest_total-falling c.as_slice-list.result.now mine.falling, c.degree_of_terms.ensures.value, c.degree_of_terms.ensures.within)
 
 pub returns : goal.returns
 returns c =
