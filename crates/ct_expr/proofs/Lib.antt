@@ -4,6 +4,7 @@ pub mod ValueArithmetic
 pub mod ValueSteps
 pub mod OverOne
 pub mod ExactValues
+mod ExactPowers
 pub mod Values
 pub mod CoefficientOfOne
 pub mod ValueInduction

@@ -21,7 +21,7 @@ use Rattle.ct_expr.proofs.ValueInduction.{Keeps, values_keep}
 use Rattle.ct_expr.proofs.ValueSteps.{plus_steps, minus_steps, times_steps}
 use Rattle.ct_expr.proofs.Values.{both}
 
-abbrev IsRight : Value → Type 0
+abbrev pub IsRight : Value → Type 0
 IsRight v = IsValue v × IsLowest v
 
 one_right : (x : Operator) → IsRight (over_one x)
@@ -55,10 +55,10 @@ checked_minus-right a v w r p q e =
     let s = minus_steps a v w r e in
     subst IsRight s.last (lowest_right s.total s.whole (clears v.whole w.whole s.whole p.0.positive q.0.positive s.common).itself)
 
-checked_times-right : (a : Name → Action) (v w r : Value) → IsRight v → IsRight w → checked_times a v w ≡ Ok r → IsRight r
-checked_times-right a v w r p q e =
+pub checked_times-right : (a : Name → Action) (v w r : Value) → IsValue v → IsValue w → checked_times a v w ≡ Ok r → IsRight r
+checked_times-right a v w r is it e =
     let s = times_steps a v w r e in
-    subst IsRight s.last (lowest_right s.product s.whole (product_fits v.whole w.whole s.whole p.0.positive q.0.positive s.wholes))
+    subst IsRight s.last (lowest_right s.product s.whole (product_fits v.whole w.whole s.whole is.positive it.positive s.wholes))
 
 divisor_is : (d : ℤ) → is_divisor d ≡ true → IsFactor (unsigned_abs d)
 divisor_is (pos n) is =
@@ -79,7 +79,7 @@ right_keeps a = record {
   negates = negated-right;
   adds = checked_plus-right a;
   subtracts = checked_minus-right a;
-  multiplies = checked_times-right a;
+  multiplies = λ v w r p q e. checked_times-right a v w r p.0 q.0 e;
   of_whole = λ n is. one_right _;
   of_ratio = ratio_right;
   of_name = λ i is. one_right _;

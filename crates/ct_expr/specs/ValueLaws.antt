@@ -5,8 +5,9 @@
 --     ProductsAreExact          over the product of the whole numbers, a product is that of the operators
 --     QuotientsAreExact         d times the value of the quotient n/d is n
 --     NegativesAreExact         a negated value is the negative operator over the same whole number
+--     PowersAreExact            over the power of the whole number, a power is that of the operator
 -- With v = x/m and w = y/n and their sum r = z/k, the law says m·n·z = k·(n·x + m·y): the sum of the fractions without a quotient.
-use Rattle.std.specs.Prelude.{◌≡◌, ℕ, ℤ, pos, ◌*◌, ◌<◌, Ok, IsTrue}
+use Rattle.std.specs.Prelude.{◌≡◌, ℕ, ℤ, pos, zero, suc, ◌*◌, ◌^◌, ◌<◌, Ok, IsTrue}
 use Rattle.ct_algebra.specs.Names.{Name}
 use Rattle.ct_algebra.specs.Monomial.{unit}
 use Rattle.ct_algebra.specs.Actions.{Action}
@@ -16,7 +17,7 @@ use Rattle.ct_ore.specs.Measures.{difference_of_operators}
 use Rattle.ct_ore.specs.Wholes.{whole_operator}
 use Rattle.ct_expr.specs.declared.expr.Expr.{Expr}
 use Rattle.ct_expr.specs.declared.expr.Expr.TheVariants.{Ratio}
-use Rattle.ct_expr.specs.Value.{fraction_of, is_evaluable, value_of, has_no_symbol, operator_of_polynomial}
+use Rattle.ct_expr.specs.Value.{fraction_of, is_evaluable, value_of, has_no_symbol, operator_of_polynomial, one_operator, one_value, power_from}
 use Rattle.ct_expr.specs.ValueArithmetic.{Value, IsLowest, IsValue, negated, checked_plus, checked_minus, checked_times}
 
 abbrev pub ValuesAreLowest : Type 0
@@ -31,6 +32,11 @@ module _ (a : Name → Action) where
   -- n times an operator
   abbrev pub scaled : ℕ → Operator → Operator
   scaled n x = product_of a (whole_operator n) x
+
+  -- the product of n times an operator
+  abbrev pub power_of_operator : ℕ → Operator → Operator
+  power_of_operator zero x = one_operator
+  power_of_operator (suc n) x = product_of a x (power_of_operator n x)
 
   -- r has the value that an operation makes of v and w, once both stand over the product of their whole numbers
   abbrev pub IsJoined : (Operator → Operator → Operator) → Value → Value → Value → Type 0
@@ -57,3 +63,8 @@ QuotientsAreExact =
 
 abbrev pub NegativesAreExact : Type 0
 NegativesAreExact = (v r : Value) → negated v ≡ Ok r → (r.operator ≡ negative v.operator) × (r.whole ≡ v.whole)
+
+abbrev pub PowersAreExact : Type 0
+PowersAreExact =
+    (a : Name → Action) (n : ℕ) (v r : Value) → IsValue v → power_from a one_value n v ≡ Ok r →
+    scaled a (v.whole ^ n) r.operator ≡ scaled a r.whole (power_of_operator a n v.operator)

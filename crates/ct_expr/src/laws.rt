@@ -1,5 +1,5 @@
 // The laws of the values of expressions, as functions with no code.
-ghost use Rattle.ct_expr.specs.ValueLaws.{ValuesAreLowest, PolynomialsLoseNothing, SumsAreExact, DifferencesAreExact, ProductsAreExact, QuotientsAreExact, NegativesAreExact};
+ghost use Rattle.ct_expr.specs.ValueLaws.{ValuesAreLowest, PolynomialsLoseNothing, SumsAreExact, DifferencesAreExact, ProductsAreExact, QuotientsAreExact, NegativesAreExact, PowersAreExact};
 
 /// The value of an expression is in lowest terms.
 pub fn values_are_lowest()
@@ -34,4 +34,9 @@ pub fn quotients_are_exact()
 /// A negated value is the negative of the fraction.
 pub fn negatives_are_exact()
     ensures { NegativesAreExact }
+{}
+
+/// A power of a value is the power of the fraction.
+pub fn powers_are_exact()
+    ensures { PowersAreExact }
 {}

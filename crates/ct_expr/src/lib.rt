@@ -19,7 +19,7 @@ mod value;
 pub use evaluation::evaluate;
 pub use expr::{Expr, Summand};
 pub use laws::{
-    differences_are_exact, negatives_are_exact, polynomials_lose_nothing, products_are_exact,
-    quotients_are_exact, sums_are_exact, values_are_lowest,
+    differences_are_exact, negatives_are_exact, polynomials_lose_nothing, powers_are_exact,
+    products_are_exact, quotients_are_exact, sums_are_exact, values_are_lowest,
 };
 pub use polynomial::evaluate_polynomial;
