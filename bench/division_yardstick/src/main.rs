@@ -143,7 +143,7 @@ fn tops(ts: &[Term]) -> [u16; 6] {
     ts.iter().fold([0; 6], |tops, t| std::array::from_fn(|i| tops[i].max(t.mono[i])))
 }
 
-/// How many cells the box has, where they are few for so many terms.
+/// How many cells the box has, if they are few for that many terms.
 fn cells_below(tops: &[u16; 6], terms: usize) -> Option<usize> {
     let most = MOST_CELLS.min(64 * (terms + 64));
     tops.iter().try_fold(1, |cells, top| {
