@@ -9,14 +9,14 @@ use Rattle.ct_algebra.specs.Terms.{by_order}
 use Rattle.ct_algebra.specs.Monomial.{Mono, exp, exp-unit, same_mono, ◌·◌, ·_comm, ·-unit, unit, mono_cmp, mono_same, monomials}
 use Rattle.ct_algebra.specs.Names.{Name, place, place_small, name_with, same_place}
 use Rattle.ct_algebra.specs.WholeNumbers.{int_group}
-use Rattle.ct_algebra.specs.Polynomial.{Polynomial, coefficient, polys}
+use Rattle.ct_algebra.specs.Polynomial.{Polynomial, coefficient, polys, plus, times}
 use Rattle.ct_algebra.specs.Substitution.{P, term, agree}
 use Rattle.ct_algebra.specs.FreeOf.{IsWithout, EachName}
 use Rattle.ct_algebra.specs.Coefficients.{is_chosen, inside, outside, term_in, coefficient_in}
 use Rattle.ct_algebra.specs.CoefficientLaws.{IsIn, CoefficientsInNames}
 use Rattle.ct_algebra.proofs.MonomialLists.{cmp-other, same_or_other}
 use Rattle.ct_algebra.proofs.PolynomialLawProofs.{finite_maps}
-use Rattle.ct_algebra.proofs.CoefficientLaws.{exp-inside, exp-outside, inside-·, outside-·, outside-inside, outside_without, coefficient_in-term, coefficient_in_hom, coefficient_in-free}
+use Rattle.ct_algebra.proofs.CoefficientLaws.{exp-inside, exp-outside, inside-·, outside-·, outside-inside, outside_without, coefficient_in-term, coefficient_in_hom, coefficient_in-free, coefficient_in-sum, coefficient_in-product}
 
 -- ---- chosen places are those of the names
 
@@ -132,6 +132,7 @@ none_in js e p others =
     ∙ cmp-other (inside js n) e polys.zero (term (outside js n) c) (λ same. others (subst (IsIn js) same (inside_within js n)))) p
 
 pub coefficients_in_names : CoefficientsInNames
+unfolding plus times
 coefficients_in_names = record {
   free = coefficient_in-free;
   values = λ js e m p within without. values_are js e m within without p;
@@ -139,4 +140,6 @@ coefficients_in_names = record {
   all = λ js m p.
       ap (coefficient p) (sym (outside-inside js m) ∙ ·_comm (outside js m) (inside js m))
       ∙ sym (values_are js (inside js m) (outside js m) (inside_within js m) (outside_without js m) p);
+  sums = coefficient_in-sum;
+  multiples = coefficient_in-product;
 }

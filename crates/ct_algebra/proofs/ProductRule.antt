@@ -8,7 +8,7 @@ use Rattle.ct_algebra.specs.Names.{Name, symbol, symbols, power, power_unit, pow
 use Rattle.ct_algebra.specs.Polynomial.{Polynomial, polys, times}
 use Rattle.ct_algebra.specs.Actions.{Action, sigma, delta, polynomials}
 use Rattle.ct_algebra.specs.Ore.{Ore, Module, Symbols, δ_one}
-use Rattle.ct_algebra.specs.OreAlgebra.{◌∘◌, one_term, one_term-sum, op_D, op_D-one_term, op_module, op_scale-one_term, D_scale_is, D_D_is}
+use Rattle.ct_algebra.specs.OreAlgebra.{◌∘◌, one_term, one_term-sum, op_D, op_D-one_term, op_module, op_scale-one_term, D_D_is}
 use Rattle.ct_algebra.specs.Sums.{Sum, sums_group, same_hom}
 use Rattle.ct_algebra.specs.Group.{none_added}
 use Rattle.ct_algebra.specs.Ring.{Ring}
@@ -56,13 +56,6 @@ module _ (a : Name → Action) where
       sum_of_operators (term_of (symbol i · m) (sigma a i c)) (term_of m (delta a i c))
   unfolding symbol_before sum_of_operators term_of one_term
   symbol_before-term_of i m c = op_D-one_term monomials products polys (polynomials a) symbols operator_set i m c
-
-  pub symbol_before-multiple :
-      (i : Name) (c : Polynomial) (p : Operator) →
-      symbol_before a i (multiple a c p) ≡
-      sum_of_operators (multiple a (sigma a i c) (symbol_before a i p)) (multiple a (delta a i c) p)
-  unfolding symbol_before multiple sum_of_operators
-  symbol_before-multiple i c p = D_scale_is monomials products polys (polynomials a) symbols operator_set i c p
 
   pub symbols_commute :
       (i j : Name) (p : Operator) → symbol_before a i (symbol_before a j p) ≡ symbol_before a j (symbol_before a i p)

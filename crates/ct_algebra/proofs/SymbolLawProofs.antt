@@ -9,7 +9,8 @@ use Rattle.ct_algebra.specs.Derivative.{derived, derived-term, lower, exp-lower,
 use Rattle.ct_algebra.specs.Laws.Derivations.{derived-number, none_at}
 use Rattle.ct_algebra.specs.Actions.{Action, Shift, Derive, Still, one_step, sigma_by, delta_by, sigma_by-sum, sigma_by-product, delta_by-sum, delta_by-product}
 use Rattle.ct_algebra.specs.FreeOf.{IsWithout}
-use Rattle.ct_algebra.specs.SymbolLaws.{SymbolsRespectTheRing, ShiftReplacesItsName, DerivationIsTheDerivative, StillNameDoesNothing}
+use Rattle.ct_algebra.specs.SymbolLaws.{SymbolsRespectTheRing, ShiftReplacesItsName, DerivationIsTheDerivative, StillNameDoesNothing, FreePolynomialsAreConstants}
+use Rattle.ct_algebra.proofs.FreeOfLaws.{sigma-free, delta-free}
 
 -- ---- all actions
 
@@ -115,3 +116,8 @@ still_names = record {
   no_sigma = λ a i p acts. ap (λ t. sigma_by t i p) acts;
   no_delta = λ a i p acts. ap (λ t. delta_by t i p) acts;
 }
+
+-- ---- polynomials without the name
+
+pub free_polynomials : FreePolynomialsAreConstants
+free_polynomials = record { no_sigma = sigma-free; no_delta = delta-free }

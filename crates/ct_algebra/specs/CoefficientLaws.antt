@@ -1,13 +1,14 @@
 -- What the law of coefficients in some names says; a function of src/laws.rt proves it.
 --     IsIn js e                the monomial e contains no other names than js
 --     CoefficientsInNames      the coefficient of e in the names js is free of js; its own coefficient at a monomial m without
---                              js is that of p at e·m; and each coefficient of p is one of these
+--                              js is that of p at e·m; each coefficient of p is one of these; and the coefficient of e respects
+--                              sums, and multiples by polynomials without js
 -- So the coefficients in some names are known from the coefficients, and a polynomial from its coefficients in some names.
 use Rattle.std.specs.Prelude.{◌≡◌, ◌≢◌, List}
 use Rattle.std.specs.List.{Contains}
 use Rattle.ct_algebra.specs.Monomial.{Mono, exp, ◌·◌}
 use Rattle.ct_algebra.specs.Names.{Name, place}
-use Rattle.ct_algebra.specs.Polynomial.{Polynomial, coefficient, polys}
+use Rattle.ct_algebra.specs.Polynomial.{Polynomial, coefficient, polys, plus, times}
 use Rattle.ct_algebra.specs.FreeOf.{IsWithout, EachName, IsFreeOfAll}
 use Rattle.ct_algebra.specs.Coefficients.{inside, outside, coefficient_in}
 
@@ -23,3 +24,9 @@ pub record CoefficientsInNames : Type 0 where
   pub all :
       (js : List Name) (m : Mono) (p : Polynomial) →
       coefficient p m ≡ coefficient (coefficient_in js (inside js m) p) (outside js m)
+  pub sums :
+      (js : List Name) (e : Mono) (p q : Polynomial) →
+      coefficient_in js e (plus p q) ≡ plus (coefficient_in js e p) (coefficient_in js e q)
+  pub multiples :
+      (js : List Name) (e : Mono) (c p : Polynomial) → IsFreeOfAll js c →
+      coefficient_in js e (times c p) ≡ times c (coefficient_in js e p)

@@ -3,6 +3,7 @@
 --     ShiftReplacesItsName          σ of a shift is the substitution of x + 1 for the name x; its δ is zero
 --     DerivationIsTheDerivative     δ of a derivation is the termwise derivative; its σ is the identity
 --     StillNameDoesNothing          σ is the identity and δ is zero
+--     FreePolynomialsAreConstants   so they are for any action, of a polynomial without the name
 -- These say all of both maps (`sigma_only`, `delta_only` of Determined).
 use Rattle.std.specs.Prelude.{◌≡◌, ◌≢◌, ℤ, pos, ◌*ℤ◌}
 use Rattle.ct_algebra.specs.Monomial.{Mono, ◌·◌, exp}
@@ -10,7 +11,7 @@ use Rattle.ct_algebra.specs.Names.{Name, place, symbol}
 use Rattle.ct_algebra.specs.Polynomial.{Polynomial, polys, plus, times}
 use Rattle.ct_algebra.specs.Substitution.{term, number, name}
 use Rattle.ct_algebra.specs.Actions.{Action, Shift, Derive, Still, sigma, delta}
-use Rattle.ct_algebra.specs.FreeOf.{IsWithout}
+use Rattle.ct_algebra.specs.FreeOf.{IsWithout, IsFreeOf}
 
 pub record SymbolsRespectTheRing : Type 0 where
   pub sigma_of_sums :
@@ -44,3 +45,7 @@ pub record DerivationIsTheDerivative : Type 0 where
 pub record StillNameDoesNothing : Type 0 where
   pub no_sigma : (a : Name → Action) (i : Name) (p : Polynomial) → a i ≡ Still → sigma a i p ≡ p
   pub no_delta : (a : Name → Action) (i : Name) (p : Polynomial) → a i ≡ Still → delta a i p ≡ polys.zero
+
+pub record FreePolynomialsAreConstants : Type 0 where
+  pub no_sigma : (a : Name → Action) (i : Name) (p : Polynomial) → IsFreeOf i p → sigma a i p ≡ p
+  pub no_delta : (a : Name → Action) (i : Name) (p : Polynomial) → IsFreeOf i p → delta a i p ≡ polys.zero
