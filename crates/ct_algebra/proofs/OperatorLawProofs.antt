@@ -1,16 +1,23 @@
--- The proofs of specs/OperatorLaws: the laws of finite sums and of the product, read at operators, and what operators
--- make of the module of polynomials.
+-- The proofs of specs/OperatorLaws: the laws of finite sums and of the product, read at operators; what operators make of
+-- the module of polynomials; and operators over the field.
 use Rattle.std.specs.Prelude.{◌≡◌, refl, [], ◌∷◌}
 use Rattle.std.proofs.Common.{sym, ◌∙◌, ap, ap₂}
-use Rattle.ct_algebra.specs.Sums.{at, same_sum, at-⊕, at-none, at-negated, at-sum_of}
-use Rattle.ct_algebra.specs.Monomial.{monomials, unit, ·-unit}
-use Rattle.ct_algebra.specs.Names.{Name, symbol, power_unit, power-symbol}
-use Rattle.ct_algebra.specs.Polynomial.{Polynomial, polys, plus, times}
+use Rattle.ct_algebra.specs.Laws.Terms.{IsAdditive}
+use Rattle.ct_algebra.specs.Products.{single-sum}
+use Rattle.ct_algebra.specs.OreAlgebra.{one_term, op_scale-one_term, op_D-one_term}
+use Rattle.ct_algebra.specs.Division.{embed-sum}
+use Rattle.ct_algebra.specs.Field.{field, coefficients}
+use Rattle.ct_algebra.specs.FieldLaws.{embedded}
+use Rattle.ct_algebra.specs.FieldOperators.{field_operator_set, field_operator_group, field_term}
+use Rattle.ct_algebra.specs.Sums.{lift-single, lift-⊕, at, same_sum, at-⊕, at-none, at-negated, at-sum_of}
+use Rattle.ct_algebra.specs.Monomial.{monomials, products, unit, ·-unit}
+use Rattle.ct_algebra.specs.Names.{Name, symbol, symbols, power_unit, power-symbol}
+use Rattle.ct_algebra.specs.Polynomial.{Polynomial, polys, polys_domain, plus, times}
 use Rattle.ct_algebra.specs.Substitution.{name}
 use Rattle.ct_algebra.specs.Actions.{Action, sigma, delta, sigma_by, delta_by}
 use Rattle.ct_algebra.specs.Operators.{operator_group, operator_of, term_of, no_operator, sum_of_operators, negative, product_of, product_of_assoc, product_of-sum, product_of-sum_left, apply-product_of}
 use Rattle.ct_algebra.specs.OnPolynomials.{on_polynomials, symbol_by, by_symbol, made_of}
-use Rattle.ct_algebra.specs.OperatorLaws.{OperatorsAreAGroup, OperatorsAreFiniteMaps, OperatorsAreSumsOfTerms, ProductFollowsRule, ShiftPassesItsName, DerivationPassesItsName, ProductHasUnit, ProductDistributes, ProductIsAssociative, ProductActsOnPolynomials}
+use Rattle.ct_algebra.specs.OperatorLaws.{OperatorsAreAGroup, OperatorsAreFiniteMaps, OperatorsAreSumsOfTerms, ProductFollowsRule, ShiftPassesItsName, DerivationPassesItsName, ProductHasUnit, ProductDistributes, ProductIsAssociative, ProductActsOnPolynomials, FieldOperatorsFollowRule}
 use Rattle.ct_algebra.proofs.AppliedOperators.{apply-sum, apply-term_of}
 use Rattle.ct_algebra.proofs.OperatorTerms.{at-term_of, pick-same, pick-other, at-multiple, term_of-zero}
 use Rattle.ct_algebra.proofs.ProductRule.{product_of-polynomial, product_of-symbol, product_of-split, symbol_before-term_of, one-product_of, product_of-one}
@@ -108,3 +115,19 @@ acts_on_polynomials = record {
     by_itself a i f =
         apply-term_of a (on_polynomials a) (symbol i) polys.one f ∙ (on_polynomials a).scale_one _
         ∙ power-symbol (by_symbol a) (on_polynomials a).D_D i f
+
+-- ---- operators over the field
+
+over_field_additive : IsAdditive polys.group field_operator_group (λ m c. field_term m (embedded c))
+over_field_additive = record {
+  sums = λ m b c. ap (field_term m) (embed-sum polys polys_domain b c) ∙ single-sum monomials products field field_operator_set m _ _;
+}
+
+pub field_operators_follow_rule : FieldOperatorsFollowRule
+unfolding term_of sum_of_operators one_term
+field_operators_follow_rule = record {
+  terms = lift-single monomials polys.group field_operator_group _ over_field_additive;
+  sums = lift-⊕ monomials polys.group field_operator_group _ over_field_additive;
+  multiples = λ a x m y. op_scale-one_term monomials products field (coefficients a) symbols field_operator_set x m y;
+  passes = λ a i m x. op_D-one_term monomials products field (coefficients a) symbols field_operator_set i m x;
+}

@@ -9,6 +9,8 @@
 --     ProductDistributes            over sums on both sides
 --     ProductIsAssociative
 --     ProductActsOnPolynomials      what operators make of polynomials; a product makes what its factors make in turn
+--     FieldOperatorsFollowRule      over the field: an operator keeps its terms and sums, and multiples and symbols pass terms by
+--                                   the same rule
 -- The rule, sums on the left and the associative law say all of the product (`product_only` of Determined).
 use Rattle.std.specs.Prelude.{◌≡◌, ◌≢◌, pos, List, [], ◌∷◌}
 use Rattle.ct_algebra.specs.Monomial.{Mono, ◌·◌, unit}
@@ -18,6 +20,9 @@ use Rattle.ct_algebra.specs.Substitution.{name, number}
 use Rattle.ct_algebra.specs.Actions.{Action, Shift, Derive, sigma, delta}
 use Rattle.ct_algebra.specs.Operators.{Operator, polynomial_at, operator_of, term_of, no_operator, sum_of_operators, negative, product_of, symbol_before, multiple}
 use Rattle.ct_algebra.specs.OnPolynomials.{made_of}
+use Rattle.ct_algebra.specs.Field.{K, field, coefficients}
+use Rattle.ct_algebra.specs.FieldLaws.{embedded}
+use Rattle.ct_algebra.specs.FieldOperators.{field_operator_group, field_term, field_operators, over_field}
 
 pub record OperatorsAreAGroup : Type 0 where
   pub sum_is_associative :
@@ -99,3 +104,16 @@ pub record ProductActsOnPolynomials : Type 0 where
   pub products :
       (a : Name → Action) (p q : Operator) (f : Polynomial) →
       made_of a (product_of a p q) f ≡ made_of a p (made_of a q f)
+
+pub record FieldOperatorsFollowRule : Type 0 where
+  pub terms : (m : Mono) (c : Polynomial) → over_field (term_of m c) ≡ field_term m (embedded c)
+  pub sums :
+      (p q : Operator) →
+      over_field (sum_of_operators p q) ≡ field_operator_group.◌+◌ (over_field p) (over_field q)
+  pub multiples :
+      (a : Name → Action) (x : K) (m : Mono) (y : K) →
+      (field_operators a).scale x (field_term m y) ≡ field_term m (field.◌*◌ x y)
+  pub passes :
+      (a : Name → Action) (i : Name) (m : Mono) (x : K) →
+      (field_operators a).D i (field_term m x) ≡
+      field_operator_group.◌+◌ (field_term (symbol i · m) ((coefficients a).σ i x)) (field_term m ((coefficients a).δ i x))
