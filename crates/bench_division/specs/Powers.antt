@@ -8,7 +8,7 @@ use Rattle.ct_algebra.specs.Substitution.{number, name}
 use Rattle.ct_mono.specs.Checked.{Checked, ◌>>=◌}
 use Rattle.ct_poly.specs.Measures.{checked_plus, checked_times}
 
--- so many more factors
+-- n more factors
 abbrev pub checked_power_from : Polynomial → ℕ → Polynomial → Checked Polynomial
 checked_power_from so_far zero p = Ok so_far
 checked_power_from so_far (suc n) p = checked_times so_far p >>= (λ more. checked_power_from more n p)

@@ -1,7 +1,7 @@
 //! Multiplies and divides polynomials of three names and adds fractions, for `bench/division.py` to time.
 //!
 //! Without words it divides one small product and prints what it found. `multiply D E ROUNDS` multiplies the power
-//! D of x + y + z + 1 by the power E of x + 2y + 3z + 1, so many times; `divide D E ROUNDS` divides their product by the
+//! D of x + y + z + 1 by the power E of x + 2y + 3z + 1, ROUNDS times; `divide D E ROUNDS` divides their product by the
 //! second; `sum D E ROUNDS` adds the first over x + y + 2z + 1 and the second over 2x + y + z + 1. The line that it
 //! prints has the number of terms and the norm of what it found, so that no work is left out.
 #![tactic(auto)]
@@ -54,7 +54,7 @@ fn number(word: Option<String>, default: u64) -> u64 {
     }
 }
 
-/// What is found of the powers of both forms, worked so many times.
+/// The result for the powers of both forms, computed in each of the rounds.
 fn measured(
     alloc: Global,
     work: Work,

@@ -1,7 +1,7 @@
 //! Runs the pool of workers on indices that each take a number of turns, for `bench/pool.py` to time.
 //!
-//! Without words it runs one small case with a hit. `jobs COUNT WORKERS TURNS` tries so many indices, of which
-//! none hits; `claims ROUNDS` tries the most indices of a pool so many times, each in no turns, by one worker.
+//! Without words it runs one small case with a hit. `jobs COUNT WORKERS TURNS` tries COUNT indices, of which none
+//! hits; `claims ROUNDS` tries the most indices of a pool, ROUNDS times, each in no turns, by one worker.
 //! The line that it prints has a sum over all misses, so that no work is left out.
 #![tactic(auto)]
 

@@ -5,7 +5,7 @@ ghost use Rattle.bench_pool.specs.Turns.{turned};
 use ct_pool::{Job, NoMemory, Outcome};
 use std::alloc::Global;
 
-/// Each index is turned so many times, and what comes of it is its outcome: a hit at one index, misses elsewhere.
+/// Each index is turned `turns` times, and the result is its outcome: a hit at one index, misses elsewhere.
 #[derive(Drop)]
 pub(crate) struct Spins {
     pub count: u64,

@@ -14,7 +14,7 @@ use Rattle.std.proofs.lemmas.Bool.{and_from}
 use Rattle.ct_core.proofs.RunsKeep.{step_is, run_step}
 use Rattle.ct_core.proofs.FirstHit.{run_first_hit}
 
--- the first hit among so many numbers from this one on, or none
+-- the first hit among `more` numbers from this one on, or none
 abbrev IsFirstFrom : (ℕ → Bool) → ℕ → ℕ → Option ℕ → Type 0
 IsFirstFrom f more from None = (x : ℕ) → from ≤ x → x < from + more → f x ≡ false
 IsFirstFrom f more from (Some m) = (from ≤ m) × (m < from + more) × (f m ≡ true) × ((x : ℕ) → from ≤ x → x < m → f x ≡ false)

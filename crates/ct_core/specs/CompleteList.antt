@@ -52,7 +52,7 @@ abbrev pub IsFirstHit : (ℕ → Bool) → ℕ → Option ℕ → Type 0
 IsFirstHit f count None = (x : ℕ) → x < count → f x ≡ false
 IsFirstHit f count (Some m) = (m < count) × (f m ≡ true) × ((x : ℕ) → x < m → f x ≡ false)
 
--- the first hit among so many numbers from this one on, tried in order
+-- the first hit among `more` numbers, tried in order from this one on
 abbrev pub first_from : (ℕ → Bool) → ℕ → ℕ → Option ℕ
 first_from f zero from = None
 first_from f (suc more) from = if f from then Some from else first_from f more (from + 1)
@@ -61,7 +61,7 @@ first_from f (suc more) from = if f from then Some from else first_from f more (
 abbrev pub decision_of : (ℕ → Bool) → ℕ → Option ℕ
 decision_of f count = first_from f count 0
 
--- the events of one worker that tries so many numbers from this one on, in order
+-- the events of one worker that tries `more` numbers, in order from this one on
 abbrev pub events_from : (ℕ → Bool) → ℕ → ℕ → List Event
 events_from f zero from = Claim 0 ∷ Stop 0 ∷ []
 events_from f (suc more) from = Claim 0 ∷ Look 0 ∷ (if f from then Hit 0 from ∷ [] else Refuse 0 from ∷ events_from f more (from + 1))

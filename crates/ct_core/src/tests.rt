@@ -1,8 +1,8 @@
-// Worked lists of events.
+// Lists of events, and the states that they lead to.
 use crate::{CoreFault, Event, State, replay, start};
 use std::alloc::Global;
 
-/// The place of the first event that is not legal; for a state or want of memory there is none.
+/// The place of the first event that is not legal; there is none for a state, or where memory ran out.
 fn illegal_place(answer: &Result<State, CoreFault>) -> Option<u64> {
     match answer {
         Err(CoreFault::Illegal(place)) => Some(*place),
