@@ -25,9 +25,9 @@ pub mod Telescoping
 -- what the laws say that the functions of src/laws.rt prove
 pub mod MonomialLaws
 pub mod PolynomialLaws
-pub mod TermLaws
 pub mod SymbolLaws
 pub mod OperatorLaws
+pub mod TermLaws
 pub mod CoefficientLaws
 pub mod FieldLaws
 pub mod Determined

@@ -125,7 +125,7 @@ fn action_of_name(algebra: &Algebra, name: u8) -> Action
     algebra.info(name).action
 }
 
-// N: σ first.
+// N: σ of the denominator first, then the product.
 fn denominator(alloc: Global, algebra: &Algebra, part: &Part) -> Result<Poly, Fault>
     requires { IsNamed algebra.now part.now }
     ensures { Answers (checked_denominator (actions_of algebra.now) (summand_of part.now)) result }
@@ -157,7 +157,7 @@ fn coefficient(alloc: Global, algebra: &Algebra, part: &Part) -> Result<Poly, Fa
     }
 }
 
-// E: the terms in the written order.
+// E: its two terms in order, and then their difference.
 #[tactic(auto, unfolding(crate::specs::Arithmetic::checked_numerator))]
 fn numerator(alloc: Global, algebra: &Algebra, part: &Part) -> Result<Op, Fault>
     requires { IsNamed algebra.now part.now }

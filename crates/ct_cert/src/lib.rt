@@ -1,11 +1,11 @@
 //! The check of a report that found a telescoper: its tests, in their order, with exact overflow.
 //!
-//! A report's answer is seen as a `Certificate` of ct_algebra. The tests are those of `specs/Tests.antt`: each
-//! passes, fails at its place, or overflows there. `check_found` answers yes, the first place that fails, or
-//! the first overflow with its place and kind. On yes the certificate `Certifies`; on no, what stands at the
-//! place is false.
+//! The answer of a report is seen as a `Certificate` of ct_algebra. The tests are those of `specs/Tests.antt`:
+//! each passes, fails at its place, or overflows there. `check_found` answers yes, the first place that fails,
+//! or the first overflow with its place and kind. On yes the certificate meets `Certifies`, so by the laws of
+//! ct_algebra its telescoper is a sum of differences; on no, what is tested at the place is false.
 //!
-//! The tests multiply everything out: nothing of how the answer was found is used.
+//! The tests multiply everything out, and use nothing of how the answer was found.
 #![tactic(auto)]
 
 mod arithmetic;

@@ -100,14 +100,14 @@ fn identity_holds(
     Ok(same_op(&left, &right))
 }
 
-// The end of a test at its place.
+// A test passes where it holds, and else fails at its place.
 fn ending(place: Place, holds: bool) -> Result<(), Stop>
     ensures { AnswersTest (test_of place (Ok holds)) result }
 {
     if holds { Ok(()) } else { Err(Stop::No(place)) }
 }
 
-// The same where arithmetic made the truth value.
+// The same where the truth value is computed, and may overflow.
 fn checked_ending(place: Place, holds: Result<bool, Fault>) -> Result<(), Stop>
     ensures { (c : Checked Bool) → Answers c holds → AnswersTest (test_of place c) result }
 {
