@@ -1,9 +1,9 @@
 -- What is within the limits and has the names of the list is as the grammar wants it. Main lemmas `entries_fit` and
 -- `operator_entries_fit`: exponents are at most the degree, and numbers at most the norm.
 use Rattle.std.proofs.Common.{◌≡◌, ◌≢◌, ℕ, zero, suc, ◌<◌, ◌≤◌, Bool, true, false, cond, T, ℤ, pos, negsuc, nat_abs, List, [], ◌∷◌, length, Some, refl, ◌∙◌, subst, arith, map, nat_lt, rules, tests}
-use Rattle.std.specs.List.{sum_by, slice_get}
+use Rattle.std.specs.List.{slice_get}
 use Rattle.std.specs.Prelude.{unsigned_abs}
-use Rattle.std.proofs.lemmas.List.Sums.{sum_by-cons, sum_by-append}
+use Rattle.std.proofs.lemmas.List.Sums.{sum_by-cons}
 use Rattle.std.proofs.lemmas.Bool.{false≢true}
 use Rattle.ct_algebra.specs.Actions as actions
 use Rattle.ct_algebra.specs.Monomial.{Mono, monomials, exp, total}
@@ -17,13 +17,13 @@ use Rattle.ct_algebra.specs.WholeNumbers.{int_group}
 use Rattle.ct_mono.specs.Limits.{largest_degree, largest_norm}
 use Rattle.ct_mono.proofs.ExponentLaws.{place-name_with}
 use Rattle.ct_ore.specs.Naming.{Naming, actions_of}
-use Rattle.ct_ore.specs.Measures.{row_of, all_terms, greatest, coefficient_terms, term_norm, coefficient_degree, order_of}
+use Rattle.ct_ore.specs.TermSums.{entries_norm}
+use Rattle.ct_ore.specs.Measures.{greatest, term_norm, coefficient_degree, order_of}
 use Rattle.ct_ore.proofs.PairMeasureLaws.{exp-le-total, known_action, no_action}
 use Rattle.ct_problem.specs.WellFormed.{Each}
 use Rattle.ct_answer.specs.declared.factors.Power.{Power}
 use Rattle.ct_answer.specs.Text.{naming_at, power_at, powers_in, names_in, symbols_in}
 use Rattle.ct_answer.specs.ReadBack.{IsNamed, PolynomialFits, OperatorFits}
-use Rattle.ct_answer.proofs.SumMeasures.{size, size-row}
 use Rattle.ct_answer.proofs.SpelledPowers.{PowerFits, Each-append}
 use Rattle.ct_answer.proofs.SpelledSums.{EntryFits}
 use Rattle.ct_answer.proofs.SpelledOperators.{OperatorEntryFits}
@@ -133,22 +133,21 @@ some_terms c some = by c.terms some
     by (e ∷ es) some = omega arith
 
 operator_list_fits : (names : List Naming) (es : List (Mono × Polynomial)) → IsCanonical monomials polys.group es
-    → sum_by size (all_terms es) ≤ largest_norm → greatest (map (λ e. degree e.1) es) ≤ largest_degree → greatest (map (λ e. total e.0) es) ≤ largest_degree
+    → entries_norm es ≤ largest_norm → greatest (map (λ e. degree e.1) es) ≤ largest_degree → greatest (map (λ e. total e.0) es) ≤ largest_degree
     → EachTerm (λ m c. IsNamed names c) es → EachTerm (λ m c. (i : Name) → actions_of names i ≡ actions.Still → IsWithout i m) es
     → Each (OperatorEntryFits names) es
 unfolding norm
 operator_list_fits names [] canonical small low low_order named acting = tt
 operator_list_fits names (e ∷ es) canonical small low low_order named acting =
-    let sum = sum_by-append size (row_of e.0 e.1.terms) (all_terms es) in
-    let row = size-row e.0 e.1.terms in (
+    let sum = sum_by-cons (λ (d : Mono × Polynomial). norm d.1) e es in (
       record {
         some = some_terms e.1 canonical.0;
-        entries = polynomial_entries_fit names true e.1 (omega (arith, low)) named.0 (omega (arith, sum, row, small));
+        entries = polynomial_entries_fit names true e.1 (omega (arith, low)) named.0 (omega (arith, sum, small));
         symbols = symbols_fit names e.0 (omega (arith, low_order)) acting.0;
       },
-      operator_list_fits names es canonical.2 (omega (arith, sum, row, small)) (omega (arith, low)) (omega (arith, low_order)) named.1 acting.1,
+      operator_list_fits names es canonical.2 (omega (arith, sum, small)) (omega (arith, low)) (omega (arith, low_order)) named.1 acting.1,
     )
 
 pub operator_entries_fit : (names : List Naming) (p : Operator) → OperatorFits names p → Each (OperatorEntryFits names) p.terms
-unfolding term_norm coefficient_terms coefficient_degree order_of
+unfolding term_norm coefficient_degree order_of
 operator_entries_fit names p fits = operator_list_fits names p.terms p.canonical fits.small fits.low fits.low_order fits.named fits.acting

@@ -1,7 +1,6 @@
 -- What is within the limits has terms within the limits. Main lemmas `small_entries` and `small_operator_entries`.
-use Rattle.std.proofs.Common.{◌≤◌, ◌<◌, ℤ, nat_abs, List, [], ◌∷◌, length, map, ap, arith, length-append}
-use Rattle.std.specs.List.{sum_by}
-use Rattle.std.proofs.lemmas.List.Sums.{sum_by-cons, sum_by-append}
+use Rattle.std.proofs.Common.{◌≤◌, ◌<◌, ℤ, nat_abs, List, [], ◌∷◌, length, map, ap, arith}
+use Rattle.std.proofs.lemmas.List.Sums.{sum_by-cons}
 use Rattle.ct_algebra.specs.Sums.{none}
 use Rattle.ct_algebra.specs.Terms.{EachTerm, IsCanonical}
 use Rattle.ct_algebra.specs.Monomial.{Mono, monomials, total}
@@ -10,10 +9,10 @@ use Rattle.ct_algebra.specs.Operators.{Operator}
 use Rattle.ct_algebra.specs.WholeNumbers.{int_group}
 use Rattle.ct_mono.specs.Limits.{largest_degree, most_terms, largest_norm}
 use Rattle.ct_ore.specs.Naming.{Naming}
-use Rattle.ct_ore.specs.Measures.{row_of, all_terms, greatest, coefficient_terms, term_count, term_norm, coefficient_degree, order_of}
+use Rattle.ct_ore.specs.TermSums.{entries_count, entries_norm}
+use Rattle.ct_ore.specs.Measures.{greatest, term_count, term_norm, coefficient_degree, order_of}
 use Rattle.ct_problem.specs.WellFormed.{Each}
 use Rattle.ct_answer.specs.ReadBack.{OperatorFits}
-use Rattle.ct_answer.proofs.SumMeasures.{size, length-row, size-row}
 use Rattle.ct_answer.proofs.PowerValues.{IsSmall}
 use Rattle.ct_answer.proofs.PolynomialValues.{IsSmallEntry}
 use Rattle.ct_answer.proofs.OperatorValues.{IsSmallOperatorEntry}
@@ -34,26 +33,24 @@ unfolding count none
 is_small c some few small low =
     record { some = λ absent. let counted = ap (λ (p : Polynomial). length p.terms) absent in absurd (omega (arith, counted, some)); few = few; small = small; low = low }
 
-operator_list : (es : List (Mono × Polynomial)) → IsCanonical monomials polys.group es → length (all_terms es) ≤ most_terms → sum_by size (all_terms es) ≤ largest_norm
+operator_list : (es : List (Mono × Polynomial)) → IsCanonical monomials polys.group es → entries_count es ≤ most_terms → entries_norm es ≤ largest_norm
     → greatest (map (λ e. degree e.1) es) ≤ largest_degree → greatest (map (λ e. total e.0) es) ≤ largest_degree → Each IsSmallOperatorEntry es
-unfolding norm
+unfolding count norm
 operator_list [] canonical few small low low_order = tt
 operator_list (e ∷ es) canonical few small low low_order =
-    let counts = length-append (row_of e.0 e.1.terms) (all_terms es) in
-    let counted = length-row e.0 e.1.terms in
-    let sums = sum_by-append size (row_of e.0 e.1.terms) (all_terms es) in
-    let weighed = size-row e.0 e.1.terms in
+    let counts = sum_by-cons (λ (d : Mono × Polynomial). count d.1) e es in
+    let sums = sum_by-cons (λ (d : Mono × Polynomial). norm d.1) e es in
     let some = some_terms e.1 canonical.0 in
-    let small_first : norm_of e.1.terms ≤ largest_norm = omega (arith, sums, weighed, small) in (
+    let small_first : norm_of e.1.terms ≤ largest_norm = omega (arith, sums, small) in (
       record {
         some = some;
         entries = small_entries e.1 (omega (arith, low)) small_first;
-        coefficient = is_small e.1 some (omega (arith, counts, counted, few)) small_first (omega (arith, low));
+        coefficient = is_small e.1 some (omega (arith, counts, few)) small_first (omega (arith, low));
         low = omega (arith, low_order);
       },
       operator_list es canonical.2 (omega (arith, counts, few)) (omega (arith, sums, small)) (omega (arith, low)) (omega (arith, low_order)),
     )
 
 pub small_operator_entries : (names : List Naming) (p : Operator) → OperatorFits names p → Each IsSmallOperatorEntry p.terms
-unfolding term_count term_norm coefficient_terms coefficient_degree order_of
+unfolding term_count term_norm coefficient_degree order_of
 small_operator_entries names p fits = operator_list p.terms p.canonical fits.few fits.small fits.low fits.low_order

@@ -5,7 +5,6 @@ pub mod PrintedExpressions
 pub mod SpelledPowers
 pub mod SpelledSums
 pub mod SpelledOperators
-pub mod SumMeasures
 pub mod FittingTexts
 pub mod SpelledTexts
 pub mod PlainProducts

@@ -1,9 +1,7 @@
 -- The value of what is printed of an operator, coefficient after coefficient. Main lemma `operator_value`.
 --     IsSmallOperatorEntry e     a term of an operator within the limits
 use Rattle.std.proofs.Common.{◌≡◌, ℕ, ◌+◌, ◌≤◌, ◌<◌, true, ℤ, nat_abs, List, [], ◌∷◌, ◌++◌, length, Ok, refl, sym, ap, ◌∙◌, subst, arith}
-use Rattle.std.specs.List.{sum_by}
-use Rattle.std.proofs.lemmas.List.{length-append}
-use Rattle.std.proofs.lemmas.List.Sums.{sum_by-cons, sum_by-append}
+use Rattle.std.proofs.lemmas.List.Sums.{sum_by-cons}
 use Rattle.ct_algebra.specs.Sums.{same_terms}
 use Rattle.ct_algebra.specs.Monomial.{Mono, monomials, total, unit}
 use Rattle.ct_algebra.specs.Names.{Name}
@@ -15,13 +13,13 @@ use Rattle.ct_algebra.specs.Operators.{Operator, term_of, operator_of}
 use Rattle.ct_algebra.proofs.OperatorLawProofs as operator_laws
 use Rattle.ct_mono.specs.Checked.{Checked, ◌>>=◌}
 use Rattle.ct_mono.specs.Limits.{largest_degree, most_terms, largest_norm}
-use Rattle.ct_ore.specs.Measures.{row_of, all_terms, coefficient_terms, term_count, term_norm}
+use Rattle.ct_ore.specs.TermSums.{entries_count, entries_norm}
+use Rattle.ct_ore.specs.Measures.{term_count, term_norm}
 use Rattle.ct_expr.specs.ValueArithmetic.{Value, over_one}
 use Rattle.ct_expr.specs.Value.{value_of, fraction_of}
 use Rattle.ct_problem.specs.WellFormed.{Each}
 use Rattle.ct_answer.specs.declared.factors.Power.{Power}
 use Rattle.ct_answer.specs.Text.{names_in, symbols_in}
-use Rattle.ct_answer.proofs.SumMeasures.{size, length-row, size-row}
 use Rattle.ct_ore.proofs.OneTerm.{terms-term, term_count-one, term_norm-one}
 use Rattle.ct_answer.proofs.PowerMonomials.{all_of, all_of-powers, all_are}
 use Rattle.ct_answer.proofs.PowerValues.{IsSmall}
@@ -85,30 +83,32 @@ module _ (a : Name → Action) where
       subst (λ (m : Mono). Makes a (operator_entry_expressions e) (term_of m e.1) (length e.1.terms) (norm_of e.1.terms)) same
       (product_makes e.1 (symbols_in e.0) known.some known.entries known.coefficient (all_are true e.0 6) (omega (arith, ap total same, low)))
 
-  counted : (e : Mono × Polynomial) (es : List (Mono × Polynomial)) → length e.1.terms + length (all_terms es) ≡ length (all_terms (e ∷ es))
-  counted e es = sym (length-append (row_of e.0 e.1.terms) (all_terms es) ∙ ap (λ (n : ℕ). n + length (all_terms es)) (length-row e.0 e.1.terms))
+  counted : (e : Mono × Polynomial) (es : List (Mono × Polynomial)) → length e.1.terms + entries_count es ≡ entries_count (e ∷ es)
+  unfolding count
+  counted e es = sym (sum_by-cons (λ (d : Mono × Polynomial). count d.1) e es)
 
-  weighed : (e : Mono × Polynomial) (es : List (Mono × Polynomial)) → norm_of e.1.terms + sum_by size (all_terms es) ≡ sum_by size (all_terms (e ∷ es))
-  weighed e es = sym (sum_by-append size (row_of e.0 e.1.terms) (all_terms es) ∙ ap (λ (n : ℕ). n + sum_by size (all_terms es)) (size-row e.0 e.1.terms))
+  weighed : (e : Mono × Polynomial) (es : List (Mono × Polynomial)) → norm_of e.1.terms + entries_norm es ≡ entries_norm (e ∷ es)
+  unfolding norm
+  weighed e es = sym (sum_by-cons (λ (d : Mono × Polynomial). norm d.1) e es)
 
-  entries_make : (e : Mono × Polynomial) (es : List (Mono × Polynomial)) → IsSmallOperatorEntry e → Adds a (operator_expressions es) (operator_of es) (length (all_terms es)) (sum_by size (all_terms es))
-      → Makes a (operator_expressions (e ∷ es)) (operator_of (e ∷ es)) (length (all_terms (e ∷ es))) (sum_by size (all_terms (e ∷ es)))
+  entries_make : (e : Mono × Polynomial) (es : List (Mono × Polynomial)) → IsSmallOperatorEntry e → Adds a (operator_expressions es) (operator_of es) (entries_count es) (entries_norm es)
+      → Makes a (operator_expressions (e ∷ es)) (operator_of (e ∷ es)) (entries_count (e ∷ es)) (entries_norm (e ∷ es))
   entries_make e es known later =
-      let all = Makes-append a (operator_entry_expressions e) (operator_expressions es) (term_of e.0 e.1) (operator_of es) (length e.1.terms) (norm_of e.1.terms) (length (all_terms es)) (sum_by size (all_terms es)) (entry_makes e known) later in
-      subst (λ (k : ℕ). Makes a (operator_expressions (e ∷ es)) (operator_of (e ∷ es)) k (sum_by size (all_terms (e ∷ es)))) (counted e es)
-      (subst (λ (s : ℕ). Makes a (operator_expressions (e ∷ es)) (operator_of (e ∷ es)) (length e.1.terms + length (all_terms es)) s) (weighed e es)
-      (subst (λ (w : Operator). Makes a (operator_expressions (e ∷ es)) w (length e.1.terms + length (all_terms es)) (norm_of e.1.terms + sum_by size (all_terms es))) (sym (operator_laws.sums_of_terms.of_more e es)) all))
+      let all = Makes-append a (operator_entry_expressions e) (operator_expressions es) (term_of e.0 e.1) (operator_of es) (length e.1.terms) (norm_of e.1.terms) (entries_count es) (entries_norm es) (entry_makes e known) later in
+      subst (λ (k : ℕ). Makes a (operator_expressions (e ∷ es)) (operator_of (e ∷ es)) k (entries_norm (e ∷ es))) (counted e es)
+      (subst (λ (s : ℕ). Makes a (operator_expressions (e ∷ es)) (operator_of (e ∷ es)) (length e.1.terms + entries_count es) s) (weighed e es)
+      (subst (λ (w : Operator). Makes a (operator_expressions (e ∷ es)) w (length e.1.terms + entries_count es) (norm_of e.1.terms + entries_norm es)) (sym (operator_laws.sums_of_terms.of_more e es)) all))
 
-  entries_add : (es : List (Mono × Polynomial)) → Each IsSmallOperatorEntry es → Adds a (operator_expressions es) (operator_of es) (length (all_terms es)) (sum_by size (all_terms es))
+  entries_add : (es : List (Mono × Polynomial)) → Each IsSmallOperatorEntry es → Adds a (operator_expressions es) (operator_of es) (entries_count es) (entries_norm es)
   entries_add [] known = subst (λ (w : Operator). Adds a [] w 0 0) (sym operator_laws.sums_of_terms.of_none) (Adds-none a)
   entries_add (e ∷ es) known = (entries_make e es known.0 (entries_add es known.1)).adds
 
-  list_value : (es : List (Mono × Polynomial)) → Each IsSmallOperatorEntry es → length (all_terms es) ≤ most_terms → sum_by size (all_terms es) ≤ largest_norm
+  list_value : (es : List (Mono × Polynomial)) → Each IsSmallOperatorEntry es → entries_count es ≤ most_terms → entries_norm es ≤ largest_norm
       → fraction_of a (sum_expression (operator_expressions es)) ≡ Ok (over_one (operator_of es))
   list_value [] known few small = zero_value a ∙ ap (λ (x : Operator). Ok (over_one x)) (sym operator_laws.sums_of_terms.of_none)
   list_value (e ∷ es) known few small =
-      sum_value a (operator_expressions (e ∷ es)) (operator_of (e ∷ es)) (length (all_terms (e ∷ es))) (sum_by size (all_terms (e ∷ es))) (entries_make e es known.0 (entries_add es known.1)).begins few small
+      sum_value a (operator_expressions (e ∷ es)) (operator_of (e ∷ es)) (entries_count (e ∷ es)) (entries_norm (e ∷ es)) (entries_make e es known.0 (entries_add es known.1)).begins few small
 
   pub operator_value : (p : Operator) → Each IsSmallOperatorEntry p.terms → term_count p ≤ most_terms → term_norm p ≤ largest_norm → value_of a (operator_expression p) ≡ Ok p
-  unfolding term_count term_norm coefficient_terms value_of
+  unfolding term_count term_norm value_of
   operator_value p known few small = ap (λ (c : Checked Value). c >>= (λ v. Ok v.operator)) (list_value p.terms known few small) ∙ ap Ok (operator_laws.sums_of_terms.of_its_own p)

@@ -3,7 +3,6 @@
 -- its value is.
 use Rattle.std.proofs.Common.{◌≡◌, ◌≢◌, ◌⊎◌, inl, inr, ℕ, ◌+◌, ◌*◌, ◌^◌, ◌≤◌, Bool, true, false, cond, eqb, ltb, le-ltb, ℤ, pos, nat_abs, List, [], ◌∷◌, length, None, Option, Ok, refl, sym, ap, ap₂, ◌∙◌, subst, arith, min}
 use native.Mathlib.Nat.{pow-zero}
-use Rattle.std.specs.List.{sum_by}
 use Rattle.std.proofs.lemmas.List.Sums.{sum_by-cons}
 use Rattle.ct_algebra.specs.Sums.{none}
 use Rattle.ct_algebra.specs.Monomial.{Mono, exp, total, unit, ◌·◌, ·_assoc, ·_comm, ·-unit, exp-unit}
@@ -17,11 +16,14 @@ use Rattle.ct_mono.specs.Checked.{verdict}
 use Rattle.ct_mono.specs.Limits.{largest_degree, most_terms, largest_norm}
 use Rattle.ct_mono.specs.declared.fault.Kind.{Kind}
 use Rattle.ct_ore.specs.declared.coefficient_term.CoefficientTerm.{CoefficientTerm}
-use Rattle.ct_ore.specs.Measures.{row_of, coefficient_terms, coefficient_degree, order_of, product_count, product_norm, product_overflow, checked_product, count_of_pair, weight_of_pair}
+use Rattle.ct_ore.specs.CoefficientTerms.{row_of, coefficient_terms}
+use Rattle.ct_ore.specs.Measures.{coefficient_degree, order_of, product_count, product_norm, product_overflow, checked_product}
+use Rattle.ct_ore.specs.MeasureLaws.{FitsProduct}
+use Rattle.ct_ore.specs.PairMeasures.{pair_measure, measure_of_row, measure_of_pairs}
 use Rattle.ct_ore.specs.PairWeights.{over_names, pair_count, pair_weight, derivation_weight, ways_below}
 use Rattle.ct_ore.proofs.OneTerm.{terms-term, some_term, coefficient_terms-one, coefficient_degree-one, order_of-one, total_unit}
 use Rattle.ct_ore.proofs.PairWeightLaws.{derivation_weight-min, power_of_one}
-use Rattle.ct_ore.specs.MeasureLaws.{FitsProduct}
+use Rattle.ct_ore.proofs.ProductMeasures.{count-pairs, norm-pairs}
 
 -- ---- pairs
 
@@ -69,27 +71,27 @@ module _ (a : Name → Action) where
   abbrev factor : Mono → Mono → CoefficientTerm
   factor m n = record { symbols = m; names = n; number = pos 1 }
 
-  count_row : (m : Mono) (k : Mono) (n : Mono) → Apart m n → (es : List (Mono × ℤ)) → sum_by (λ s. sum_by (λ t. count_of_pair a s t) (factor k n ∷ [])) (row_of m es) ≡ length es
+  count_row : (m : Mono) (k : Mono) (n : Mono) → Apart m n → (es : List (Mono × ℤ)) → measure_of_pairs a false (row_of m es) (factor k n ∷ []) ≡ length es
   count_row m k n apart [] = refl
   count_row m k n apart (e ∷ es) =
       let one = (pairs_are_one m n apart).0 in
       omega (
         arith,
-        sum_by-cons (λ (s : CoefficientTerm). sum_by (λ t. count_of_pair a s t) (factor k n ∷ [])) (record { symbols = m; names = e.0; number = e.1 }) (row_of m es),
-        sum_by-cons (λ (t : CoefficientTerm). count_of_pair a (record { symbols = m; names = e.0; number = e.1 }) t) (factor k n) [],
+        sum_by-cons (λ (s : CoefficientTerm). measure_of_row a false s (factor k n ∷ [])) (record { symbols = m; names = e.0; number = e.1 }) (row_of m es),
+        sum_by-cons (λ (t : CoefficientTerm). pair_measure a false (record { symbols = m; names = e.0; number = e.1 }) t) (factor k n) [],
         one,
         count_row m k n apart es,
       )
 
-  weight_row : (m : Mono) (k : Mono) (n : Mono) → Apart m n → (es : List (Mono × ℤ)) → sum_by (λ s. sum_by (λ t. weight_of_pair a s t) (factor k n ∷ [])) (row_of m es) ≡ norm_of es
+  weight_row : (m : Mono) (k : Mono) (n : Mono) → Apart m n → (es : List (Mono × ℤ)) → measure_of_pairs a true (row_of m es) (factor k n ∷ []) ≡ norm_of es
   weight_row m k n apart [] = refl
   weight_row m k n apart (e ∷ es) =
       let one = (pairs_are_one m n apart).1 in
       let here : nat_abs e.1 * 1 * over_names (λ i. pair_weight a i (exp m (place i)) (exp n (place i))) ≡ nat_abs e.1 = rw one (omega arith) in
       omega (
         arith,
-        sum_by-cons (λ (s : CoefficientTerm). sum_by (λ t. weight_of_pair a s t) (factor k n ∷ [])) (record { symbols = m; names = e.0; number = e.1 }) (row_of m es),
-        sum_by-cons (λ (t : CoefficientTerm). weight_of_pair a (record { symbols = m; names = e.0; number = e.1 }) t) (factor k n) [],
+        sum_by-cons (λ (s : CoefficientTerm). measure_of_row a true s (factor k n ∷ [])) (record { symbols = m; names = e.0; number = e.1 }) (row_of m es),
+        sum_by-cons (λ (t : CoefficientTerm). pair_measure a true (record { symbols = m; names = e.0; number = e.1 }) t) (factor k n) [],
         here,
         weight_row m k n apart es,
         sum_by-cons (λ (d : Mono × ℤ). nat_abs d.1) e es,
@@ -120,12 +122,12 @@ module _ (a : Name → Action) where
 
   product_fits : (m k n : Mono) (c : Polynomial) → c ≢ polys.zero → Apart m n → count c ≤ most_terms → norm c ≤ largest_norm → degree c + total n ≤ largest_degree → total m + total k ≤ largest_degree
       → FitsProduct a (term_of m c) (term_of k (term n (pos 1)))
-  unfolding product_count product_norm count norm degree
+  unfolding count norm degree
   product_fits m k n c some apart few small low low_order =
       let first = coefficient_terms-one m c some in
       let second = second_terms k n in
-      let counted = ap₂ (λ (ts us : List CoefficientTerm). sum_by (λ s. sum_by (λ t. count_of_pair a s t) us) ts) first second ∙ count_row m k n apart c.terms in
-      let weighed = ap₂ (λ (ts us : List CoefficientTerm). sum_by (λ s. sum_by (λ t. weight_of_pair a s t) us) ts) first second ∙ weight_row m k n apart c.terms in
+      let counted = sym (count-pairs a _ _) ∙ ap₂ (measure_of_pairs a false) first second ∙ count_row m k n apart c.terms in
+      let weighed = sym (norm-pairs a _ _) ∙ ap₂ (measure_of_pairs a true) first second ∙ weight_row m k n apart c.terms in
       let second_degree : degree (term n (pos 1)) ≡ total n = ap degree_of (terms-term n (pos 1) tt) in
       record {
         degrees = omega (arith, coefficient_degree-one m c some, coefficient_degree-one k (term n (pos 1)) (some_term n (pos 1) tt), second_degree, low);

@@ -3,7 +3,7 @@
 --     Adds ts w k s          behind any sum that leaves room, these terms add w
 --     Begins ts w k s        a sum of these terms has the value w, and goes on from it
 -- Main lemmas `Adds-append`, `Begins-append` and `sum_value`.
-use Rattle.std.proofs.Common.{◌≡◌, ℕ, ◌+◌, ◌≤◌, Bool, true, false, le-ltb, pos, List, [], ◌∷◌, ◌++◌, map, None, Some, Option, Ok, Err, refl, sym, ap, ap₂, ◌∙◌, arith}
+use Rattle.std.proofs.Common.{◌≡◌, ℕ, ◌+◌, ◌≤◌, Bool, true, false, pos, List, [], ◌∷◌, ◌++◌, map, None, Some, Option, Ok, Err, refl, sym, ap, ap₂, ◌∙◌, arith}
 use Rattle.std.proofs.lemmas.List.{append-nil}
 use Rattle.ct_algebra.specs.Names.{Name}
 use Rattle.ct_algebra.specs.Actions.{Action}
@@ -18,7 +18,8 @@ use Rattle.ct_algebra.proofs.OperatorTerms.{term_of-zero}
 use Rattle.ct_mono.specs.Checked.{Checked, ◌>>=◌, verdict}
 use Rattle.ct_mono.specs.Limits.{most_terms, largest_norm}
 use Rattle.ct_mono.specs.declared.fault.Kind.{Kind}
-use Rattle.ct_ore.specs.Measures.{coefficient_terms, term_count, term_norm, sum_overflow, checked_sum, checked_difference, difference_of_operators}
+use Rattle.ct_ore.specs.Measures.{term_count, term_norm, checked_sum, checked_difference, difference_of_operators}
+use Rattle.ct_ore.proofs.OperatorSums.{sum_allowed, sum_within}
 use Rattle.ct_ore.proofs.WrittenOperators.{terms-no_operator}
 use Rattle.ct_expr.specs.declared.expr.Expr.TheVariants as e
 use Rattle.ct_problem.specs.Grammar.{Term, summand}
@@ -27,7 +28,6 @@ use Rattle.ct_expr.specs.ValueArithmetic.{Value, over_one}
 use Rattle.ct_expr.specs.Value.{fraction_of, signed, Signed, sum_from, joined}
 use Rattle.ct_expr.proofs.OverOne.{negated_over_one, plus_over_one, minus_over_one}
 use Rattle.ct_expr.proofs.Values.{fraction_of-Whole, fraction_of-Sum, fraction_of_term-out}
-use Rattle.ct_answer.proofs.SumMeasures.{term_count-sum, term_norm-sum}
 use Rattle.ct_answer.proofs.PrintedExpressions.{sum_expression}
 
 -- ---- sums of operators
@@ -37,28 +37,21 @@ unfolding sum_of_operators no_operator
 none_sum p = zero_add operator_group p
 
 term_count-none : term_count no_operator ≡ 0
-unfolding term_count coefficient_terms
+unfolding term_count
 term_count-none = rw terms-no_operator refl
 
 term_norm-none : term_norm no_operator ≡ 0
-unfolding term_norm coefficient_terms
+unfolding term_norm
 term_norm-none = rw terms-no_operator refl
 
 -- a sum with room
-no_overflow : (p q : Operator) → term_count p + term_count q ≤ most_terms → term_norm p + term_norm q ≤ largest_norm → sum_overflow p q ≡ None
-unfolding sum_overflow
-no_overflow p q few small =
-    let one = le-ltb most_terms (term_count p + term_count q) few in
-    let two = le-ltb largest_norm (term_norm p + term_norm q) small in
-    rw (one, two) refl
-
 sum_fits : (p q : Operator) → term_count p + term_count q ≤ most_terms → term_norm p + term_norm q ≤ largest_norm → checked_sum p q ≡ Ok (sum_of_operators p q)
 unfolding checked_sum verdict
-sum_fits p q few small = ap (λ (o : Option Kind). verdict o (sum_of_operators p q)) (no_overflow p q few small)
+sum_fits p q few small = ap (λ (o : Option Kind). verdict o (sum_of_operators p q)) (sum_allowed p q few small)
 
 difference_fits : (p q : Operator) → term_count p + term_count q ≤ most_terms → term_norm p + term_norm q ≤ largest_norm → checked_difference p q ≡ Ok (sum_of_operators p (negative q))
 unfolding checked_difference difference_of_operators verdict
-difference_fits p q few small = ap (λ (o : Option Kind). verdict o (sum_of_operators p (negative q))) (no_overflow p q few small)
+difference_fits p q few small = ap (λ (o : Option Kind). verdict o (sum_of_operators p (negative q))) (sum_allowed p q few small)
 
 -- ---- terms
 
@@ -120,8 +113,8 @@ module _ (a : Name → Action) where
     goes_on =
         ap (λ (c : Checked Value). c >>= (λ x. joined a (Some (over_one so_far)) t.0 x >>= (λ more. sum_from a (Some more) rest))) known.evaluates
         ∙ ap (λ (c : Checked Value). c >>= (λ more. sum_from a (Some more) rest)) (joined_value so_far t.0 known.value w known.sign (omega (arith, few, known.few)) (omega (arith, small, known.small)));
-    few = omega (arith, term_count-sum so_far w, known.few_signed);
-    small = omega (arith, term_norm-sum so_far w, known.small_signed);
+    few = omega (arith, (sum_within so_far w).count, known.few_signed);
+    small = omega (arith, (sum_within so_far w).norm, known.small_signed);
   }
 
   Begins-one : (t : Term) (w : Operator) (k s : ℕ) → TermHas t w k s → Begins (t ∷ []) w k s

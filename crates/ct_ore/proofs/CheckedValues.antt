@@ -26,8 +26,9 @@ module _ (a : Name → Action) where
   combination_value sum (c ∷ cs) (g ∷ gs) r fits =
       let product = both_fit (checked_product a c g) (λ p. checked_sum sum p >>= (λ more. checked_combination a more cs gs)) r fits in
       let more = both_fit (checked_sum sum product.value) (λ more. checked_combination a more cs gs) r product.rest in
+      let first = ap (operator_group.◌+◌ sum) (product_value a c g product.value product.first) in
       sym (operator_group.add_assoc sum (product_of a c g) (combination a cs gs))
-      ∙ ap (λ p. operator_group.◌+◌ p (combination a cs gs)) (ap (operator_group.◌+◌ sum) (product_value a c g product.value product.first) ∙ sum_value sum product.value more.value more.first)
+      ∙ ap (λ p. operator_group.◌+◌ p (combination a cs gs)) (first ∙ sum_value sum product.value more.value more.first)
       ∙ combination_value more.value cs gs r more.rest
 
 pub checked_values : CheckedValuesAreExact

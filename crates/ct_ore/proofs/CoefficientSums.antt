@@ -14,8 +14,7 @@ use Rattle.ct_algebra.specs.Operators.{Operator, operator_group, operator_set, t
 use Rattle.ct_algebra.proofs.OperatorTerms.{sums_are, term_of_hom, term_of-single}
 use Rattle.ct_algebra.proofs.Merging.{total-append}
 use Rattle.ct_ore.specs.declared.coefficient_term.CoefficientTerm.{CoefficientTerm}
-use Rattle.ct_ore.specs.CoefficientTerms.{by_parts, keyed, part, sum_of_parts}
-use Rattle.ct_ore.specs.Measures.{row_of, all_terms, coefficient_terms}
+use Rattle.ct_ore.specs.CoefficientTerms.{by_parts, keyed, part, sum_of_parts, row_of, all_terms, coefficient_terms}
 
 -- ---- sums
 

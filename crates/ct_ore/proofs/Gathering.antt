@@ -17,8 +17,7 @@ use Rattle.ct_poly.specs.Terms.{entries, IsFalling}
 use Rattle.ct_ore.specs.declared.coefficient_term.CoefficientTerm.{CoefficientTerm}
 use Rattle.ct_ore.specs.declared.op.OpTerm.{OpTerm}
 use Rattle.ct_ore.specs.Terms.{op_entries}
-use Rattle.ct_ore.specs.CoefficientTerms.{sum_of_parts, size_of, IsWritten}
-use Rattle.ct_ore.specs.Measures.{row_of, all_terms, coefficient_terms}
+use Rattle.ct_ore.specs.CoefficientTerms.{sum_of_parts, size_of, IsWritten, row_of, all_terms, coefficient_terms}
 use Rattle.ct_ore.specs.Lists.{Fits, StartsOther, AllHave, IsRun, IsRunLength, IsGathering, without_symbols}
 use Rattle.ct_ore.proofs.WrittenOperators.{op_entries-append}
 use Rattle.ct_ore.proofs.WrittenForm.{coefficients_of_sum, all_written}

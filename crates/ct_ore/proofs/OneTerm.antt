@@ -7,9 +7,10 @@ use Rattle.ct_algebra.specs.Substitution.{term}
 use Rattle.ct_algebra.specs.WholeNumbers.{int_is_zero}
 use Rattle.ct_algebra.specs.Operators.{term_of}
 use Rattle.ct_poly.proofs.TermLists.{poly_of-single}
-use Rattle.ct_ore.specs.CoefficientTerms.{size_of}
-use Rattle.ct_ore.specs.Measures.{row_of, all_terms, coefficient_terms, term_count, term_norm, greatest, coefficient_degree, order_of}
-use Rattle.ct_ore.proofs.OperatorMeasures.{terms-term_of, length-row, size-row}
+use Rattle.ct_ore.specs.CoefficientTerms.{row_of, all_terms, coefficient_terms}
+use Rattle.ct_ore.specs.Measures.{term_count, term_norm, greatest, coefficient_degree, order_of}
+use Rattle.ct_ore.specs.TermSums.{entries_count, entries_norm}
+use Rattle.ct_ore.proofs.OperatorMeasures.{terms-term_of}
 
 -- ---- polynomials of one term
 
@@ -34,12 +35,12 @@ module _ (m : Mono) (c : Polynomial) (some : c ≢ polys.zero) where
   coefficient_terms-one = ap all_terms terms ∙ append-nil (row_of m c.terms)
 
   pub term_count-one : term_count (term_of m c) ≡ count c
-  unfolding term_count count
-  term_count-one = ap length coefficient_terms-one ∙ length-row m c.terms
+  unfolding term_count
+  term_count-one = omega (arith, ap entries_count terms)
 
   pub term_norm-one : term_norm (term_of m c) ≡ norm c
-  unfolding term_norm norm
-  term_norm-one = ap size_of coefficient_terms-one ∙ size-row m c.terms
+  unfolding term_norm
+  term_norm-one = omega (arith, ap entries_norm terms)
 
   pub coefficient_degree-one : coefficient_degree (term_of m c) ≡ degree c
   unfolding coefficient_degree

@@ -1,7 +1,8 @@
 -- How many coefficient terms an operator has and how large they are: what a value of code keeps of its operator.
--- Main lemmas `fits_of_terms` (terms in code are within the limits where their operator is) and `term_fits`, of one term.
-use Rattle.std.proofs.Common.{◌≡◌, refl, ◌+◌, ◌≤◌, nat_abs, ℤ, List, [], ◌∷◌, length, sym, ◌∙◌, ap, subst, arith, cond, Bool, true, false, append-nil, suc, lit≤}
-use Rattle.std.proofs.lemmas.List.Sums.{sum_by-cons}
+-- Main lemmas `fits_of_terms` (terms in code are within the limits where their operator is) and `term_fits`, of one term;
+-- `count-coefficient_terms` and `norm-coefficient_terms` tie the code's lists to the measures.
+use Rattle.std.proofs.Common.{◌≡◌, refl, ℕ, ◌+◌, ◌≤◌, nat_abs, ℤ, List, [], ◌∷◌, length, sym, ◌∙◌, ap, subst, arith, cond, Bool, true, false, append-nil, suc, lit≤, ap₂, length-append}
+use Rattle.std.proofs.lemmas.List.Sums.{sum_by-cons, sum_by-append}
 use Rattle.ct_algebra.specs.Sums.{has_none, none_of, single}
 use Rattle.ct_algebra.specs.Monomial.{Mono, monomials}
 use Rattle.ct_algebra.specs.Polynomial.{Polynomial, polys, count, norm, norm_of}
@@ -11,33 +12,83 @@ use Rattle.ct_mono.specs.Limits.{most_terms, largest_norm}
 use Rattle.ct_ore.specs.declared.coefficient_term.CoefficientTerm.{CoefficientTerm}
 use Rattle.ct_ore.specs.declared.op.OpTerm.{OpTerm}
 use Rattle.ct_ore.specs.Terms.{op_entries, operator_of_terms, IsOperator}
-use Rattle.ct_ore.specs.CoefficientTerms.{size_of}
-use Rattle.ct_ore.specs.Measures.{row_of, all_terms, coefficient_terms, term_count, term_norm}
+use Rattle.ct_ore.specs.CoefficientTerms.{size_of, row_of, all_terms, coefficient_terms}
+use Rattle.ct_ore.specs.Measures.{term_count, term_norm}
 use Rattle.ct_ore.specs.Lists.{Fits}
+use Rattle.ct_ore.specs.TermSums.{entries_count, entries_norm}
 use Rattle.ct_ore.proofs.WrittenForm.{coefficients_written}
 use Rattle.ct_ore.proofs.WrittenOperators.{value_of_terms, canonical_terms, terms-no_operator}
+
+-- ---- the measures of a list of terms are those of its coefficients
+
+pub length-row : (m : Mono) (es : List (Mono × ℤ)) → length (row_of m es) ≡ length es
+length-row m [] = refl
+length-row m (e ∷ es) = ap (λ n. suc n) (length-row m es)
+
+pub size-row : (m : Mono) (es : List (Mono × ℤ)) → size_of (row_of m es) ≡ norm_of es
+size-row m [] = refl
+size-row m (e ∷ es) =
+    sum_by-cons (λ (u : CoefficientTerm). nat_abs u.number) (record { symbols = m; names = e.0; number = e.1 }) (row_of m es)
+    ∙ ap (λ n. nat_abs e.1 + n) (size-row m es) ∙ sym (sum_by-cons (λ (d : Mono × ℤ). nat_abs d.1) e es)
+
+abbrev counted : Mono × Polynomial → ℕ
+counted e = count e.1
+
+abbrev normed : Mono × Polynomial → ℕ
+normed e = norm e.1
+
+pub count-all_terms : (es : List (Mono × Polynomial)) → length (all_terms es) ≡ entries_count es
+unfolding count
+count-all_terms [] = refl
+count-all_terms (e ∷ es) =
+    length-append (row_of e.0 e.1.terms) (all_terms es) ∙ ap₂ ◌+◌ (length-row e.0 e.1.terms) (count-all_terms es)
+    ∙ sym (sum_by-cons counted e es)
+
+pub norm-all_terms : (es : List (Mono × Polynomial)) → size_of (all_terms es) ≡ entries_norm es
+unfolding norm
+norm-all_terms [] = refl
+norm-all_terms (e ∷ es) =
+    sum_by-append (λ (t : CoefficientTerm). nat_abs t.number) (row_of e.0 e.1.terms) (all_terms es)
+    ∙ ap₂ ◌+◌ (size-row e.0 e.1.terms) (norm-all_terms es) ∙ sym (sum_by-cons normed e es)
+
+pub count-coefficient_terms : (p : Operator) → length (coefficient_terms p) ≡ term_count p
+unfolding term_count coefficient_terms
+count-coefficient_terms p = count-all_terms p.terms
+
+pub norm-coefficient_terms : (p : Operator) → size_of (coefficient_terms p) ≡ term_norm p
+unfolding term_norm coefficient_terms
+norm-coefficient_terms p = norm-all_terms p.terms
+
+-- what code counts and adds up
+pub listed_count : (p : Operator) (es : List (Mono × Polynomial)) → es ≡ p.terms → length (all_terms es) ≡ term_count p
+unfolding term_count
+listed_count p es same = count-all_terms es ∙ ap entries_count same
+
+pub listed_norm : (p : Operator) (es : List (Mono × Polynomial)) → es ≡ p.terms → entries_norm es ≡ term_norm p
+unfolding term_norm
+listed_norm p es same = ap entries_norm same
+
+-- ---- what a value of code keeps
 
 -- an operator within the limits, as the invariant of `Op` says it
 pub fits_of_terms :
     (p : Operator) (ts : List OpTerm) → op_entries ts ≡ p.terms → Fits (coefficient_terms p) →
     IsOperator ts × (term_count (operator_of_terms ts) ≤ most_terms) × (term_norm (operator_of_terms ts) ≤ largest_norm)
-unfolding term_count term_norm
 fits_of_terms p ts same fits =
     let value : operator_of_terms ts ≡ p = value_of_terms ts same in (
       canonical_terms p ts same,
-      subst (λ q. length (coefficient_terms q) ≤ most_terms) (sym value) fits.few,
-      subst (λ q. size_of (coefficient_terms q) ≤ largest_norm) (sym value) fits.small,
+      subst (λ q. term_count q ≤ most_terms) (sym value) (omega (arith, fits.few, count-coefficient_terms p)),
+      subst (λ q. term_norm q ≤ largest_norm) (sym value) (omega (arith, fits.small, norm-coefficient_terms p)),
     )
 
 -- and back
 pub fits_of_invariant :
     {p : Operator} (ts : List OpTerm) → operator_of_terms ts ≡ p → term_count (operator_of_terms ts) ≤ most_terms →
     term_norm (operator_of_terms ts) ≤ largest_norm → Fits (coefficient_terms p)
-unfolding term_count term_norm
 fits_of_invariant {p} ts value few small = record {
   written = coefficients_written p;
-  few = subst (λ q. length (coefficient_terms q) ≤ most_terms) value few;
-  small = subst (λ q. size_of (coefficient_terms q) ≤ largest_norm) value small;
+  few = omega (arith, count-coefficient_terms p, subst (λ q. term_count q ≤ most_terms) value few);
+  small = omega (arith, norm-coefficient_terms p, subst (λ q. term_norm q ≤ largest_norm) value small);
 }
 
 pub no_operator_fits : Fits (coefficient_terms no_operator)
@@ -60,16 +111,6 @@ terms-term_of m c some = by (has_none monomials int_group c.terms) refl
         cond {A = List (Mono × Polynomial)} (has_none monomials int_group c.terms) [] ((m, c) ∷ []) ≡ (m, c) ∷ []
     by true e = absurd (some (none_of monomials int_group c e))
     by false e = ap (λ b. cond {A = List (Mono × Polynomial)} b [] ((m, c) ∷ [])) e
-
-pub length-row : (m : Mono) (es : List (Mono × ℤ)) → length (row_of m es) ≡ length es
-length-row m [] = refl
-length-row m (e ∷ es) = ap (λ n. suc n) (length-row m es)
-
-pub size-row : (m : Mono) (es : List (Mono × ℤ)) → size_of (row_of m es) ≡ norm_of es
-size-row m [] = refl
-size-row m (e ∷ es) =
-    sum_by-cons (λ (u : CoefficientTerm). nat_abs u.number) (record { symbols = m; names = e.0; number = e.1 }) (row_of m es)
-    ∙ ap (λ n. nat_abs e.1 + n) (size-row m es) ∙ sym (sum_by-cons (λ (d : Mono × ℤ). nat_abs d.1) e es)
 
 pub term_fits :
     (m : Mono) (c : Polynomial) → (c ≡ polys.zero → ⊥) → count c ≤ most_terms → norm c ≤ largest_norm →

@@ -2,9 +2,9 @@
 -- within their measures. Main lemmas `can_add`, `merged_is`, `sum_fits`, `negative_terms`, which the methods of `Op` cite, and
 -- `sum_within`, `difference_within`, which the laws cite. The measures of an operator are added up over its terms, or are the
 -- greatest of them, and inserting a term adds at most its own.
-use Rattle.std.proofs.Common.{◌≡◌, refl, ℕ, ◌+◌, ◌≤◌, ◌<◌, ltb, max, map, nat_abs, ℤ, neg_ℤ, ◌⊎◌, inl, inr, List, [], ◌∷◌, length, sym, ◌∙◌, ap, ap₂, subst, arith, Bool, true, false, cond, T, Ordering, Less, Equal, Greater, Some, None, length-append, lt-ltb, le-ltb, ltb-false}
+use Rattle.std.proofs.Common.{◌≡◌, refl, ℕ, ◌+◌, ◌≤◌, ◌<◌, ltb, max, map, ℤ, neg_ℤ, ◌⊎◌, inl, inr, List, [], ◌∷◌, sym, ◌∙◌, ap, ap₂, subst, arith, Bool, true, false, cond, T, Ordering, Less, Equal, Greater, Some, None, lt-ltb, le-ltb, ltb-false}
 use Rattle.std.proofs.lemmas.Bool.{cases_lt}
-use Rattle.std.proofs.lemmas.List.Sums.{sum_by-cons, sum_by-append}
+use Rattle.std.proofs.lemmas.List.Sums.{sum_by-cons}
 use Rattle.ct_algebra.specs.Group.{neg_neg, neg_zero}
 use Rattle.ct_algebra.specs.Terms.{EachTerm, EachTerm-weaker, by_order, keep, insert, merged, AllBelow, IsCanonical}
 use Rattle.ct_algebra.specs.Sums.{◌⊕◌, EachTerm-⊕, negated}
@@ -20,13 +20,12 @@ use Rattle.ct_poly.proofs.OverflowRules.{is_broken, is_kept}
 use Rattle.ct_poly.proofs.Within.{sums_within, negatives_within as neg_within}
 use Rattle.ct_ore.specs.declared.op.OpTerm.{OpTerm}
 use Rattle.ct_ore.specs.Terms.{op_entries}
-use Rattle.ct_ore.specs.CoefficientTerms.{size_of}
+use Rattle.ct_ore.specs.CoefficientTerms.{coefficient_terms}
 use Rattle.ct_ore.specs.Lists.{Fits}
-use Rattle.ct_ore.specs.Measures.{row_of, all_terms, coefficient_terms, term_count, term_norm, greatest, coefficient_degree, order_of, difference_of_operators, sum_overflow}
+use Rattle.ct_ore.specs.Measures.{term_count, term_norm, greatest, coefficient_degree, order_of, difference_of_operators, sum_overflow}
 use Rattle.ct_ore.specs.MeasureLaws.{IsWithinSum}
 use Rattle.ct_ore.specs.TermSums.{CanAdd, entries_count, entries_norm, negatives}
-use Rattle.ct_ore.specs.declared.coefficient_term.CoefficientTerm.{CoefficientTerm}
-use Rattle.ct_ore.proofs.OperatorMeasures.{length-row, size-row}
+use Rattle.ct_ore.proofs.OperatorMeasures.{count-coefficient_terms, norm-coefficient_terms}
 use Rattle.ct_ore.proofs.WrittenForm.{coefficients_written}
 use Rattle.ct_ore.proofs.WrittenOperators.{terms-operator_of}
 
@@ -38,34 +37,13 @@ counted e = count e.1
 abbrev normed : Mono × Polynomial → ℕ
 normed e = norm e.1
 
-pub count-all_terms : (es : List (Mono × Polynomial)) → length (all_terms es) ≡ entries_count es
-unfolding count
-count-all_terms [] = refl
-count-all_terms (e ∷ es) =
-    length-append (row_of e.0 e.1.terms) (all_terms es) ∙ ap₂ ◌+◌ (length-row e.0 e.1.terms) (count-all_terms es)
-    ∙ sym (sum_by-cons counted e es)
-
-pub norm-all_terms : (es : List (Mono × Polynomial)) → size_of (all_terms es) ≡ entries_norm es
-unfolding norm
-norm-all_terms [] = refl
-norm-all_terms (e ∷ es) =
-    sum_by-append (λ (t : CoefficientTerm). nat_abs t.number) (row_of e.0 e.1.terms) (all_terms es)
-    ∙ ap₂ ◌+◌ (size-row e.0 e.1.terms) (norm-all_terms es) ∙ sym (sum_by-cons normed e es)
-
 pub term_count-is : (p : Operator) → term_count p ≡ entries_count p.terms
-unfolding term_count coefficient_terms
-term_count-is p = count-all_terms p.terms
+unfolding term_count
+term_count-is p = refl
 
 pub term_norm-is : (p : Operator) → term_norm p ≡ entries_norm p.terms
-unfolding term_norm coefficient_terms
-term_norm-is p = norm-all_terms p.terms
-
--- what code counts and adds up
-pub listed_count : (p : Operator) (es : List (Mono × Polynomial)) → es ≡ p.terms → length (all_terms es) ≡ term_count p
-listed_count p es same = count-all_terms es ∙ ap entries_count same ∙ sym (term_count-is p)
-
-pub listed_norm : (p : Operator) (es : List (Mono × Polynomial)) → es ≡ p.terms → entries_norm es ≡ term_norm p
-listed_norm p es same = ap entries_norm same ∙ sym (term_norm-is p)
+unfolding term_norm
+term_norm-is p = refl
 
 -- ---- which rule is broken
 
@@ -166,7 +144,8 @@ insert_within m c [] = keep_within m c []
 insert_within m c (e ∷ es) = by (mono_cmp m e.0) (insert_within m c es)
   where
     by : (r : Ordering) → AddsOne m c es (inserted m c es)
-        → AddsOne m c (e ∷ es) (by_order r (e ∷ inserted m c es) (keep monomials polys.group m (polys.group.◌+◌ c e.1) es) (keep monomials polys.group m c (e ∷ es)))
+        → AddsOne m c (e ∷ es) (by_order r (e ∷ inserted m c es) (keep monomials polys.group m (polys.group.◌+◌ c e.1) es)
+        (keep monomials polys.group m c (e ∷ es)))
     by Less later = record {
       few = omega (arith, later.few, sum_by-cons counted e es, sum_by-cons counted e (inserted m c es));
       small = omega (arith, later.small, sum_by-cons normed e es, sum_by-cons normed e (inserted m c es));
@@ -223,12 +202,11 @@ sum_within p q =
     }
 
 pub sum_fits : (p q : Operator) → HasRoom p q → Fits (coefficient_terms (sum_of_operators p q))
-unfolding term_count term_norm
 sum_fits p q room =
     let within = sum_within p q in record {
       written = coefficients_written (sum_of_operators p q);
-      few = omega (arith, room.few, within.count);
-      small = omega (arith, room.small, within.norm);
+      few = omega (arith, room.few, within.count, count-coefficient_terms (sum_of_operators p q));
+      small = omega (arith, room.small, within.norm, norm-coefficient_terms (sum_of_operators p q));
     }
 
 -- ---- negatives

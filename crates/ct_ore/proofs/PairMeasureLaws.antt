@@ -20,10 +20,12 @@ use Rattle.ct_ore.specs.declared.op.OpTerm.{OpTerm}
 use Rattle.ct_ore.specs.Terms.{op_entries}
 use Rattle.ct_ore.specs.Lists.{IsPartsOf}
 use Rattle.ct_ore.specs.PairMeasures.{name_measure, pair_measure, measure_of_row, measure_of_pairs}
-use Rattle.ct_ore.specs.Measures.{all_terms, coefficient_terms, greatest, product_overflow, coefficient_degree, order_of, product_count, product_norm}
+use Rattle.ct_ore.specs.CoefficientTerms.{all_terms, coefficient_terms}
+use Rattle.ct_ore.specs.Measures.{greatest, product_overflow, coefficient_degree, order_of, product_count, product_norm}
 use Rattle.ct_ore.specs.Bounds.{IsCapped, IsSumming}
 use Rattle.ct_poly.proofs.TermLists.{place-name_with}
 use Rattle.ct_ore.proofs.PairWeightLaws.{how_many-positive}
+use Rattle.ct_ore.proofs.ProductMeasures.{count-pairs, norm-pairs}
 
 pub summing_start : (all : ℕ) → IsSumming all all (Some 0)
 summing_start all = record { done = 0; capped = (refl, omega arith); rest = omega arith }
@@ -135,14 +137,14 @@ order_is p ts same = ap (λ es. greatest (map (λ (e : Mono × Polynomial). tota
 pub count_is :
     (a : Name → Action) (p q : Operator) (ps : List OpTerm) (qs : List CoefficientTerm) → op_entries ps ≡ p.terms → IsPartsOf q qs →
     measure_of_pairs a false (all_terms (op_entries ps)) qs ≡ product_count a p q
-unfolding product_count coefficient_terms
-count_is a p q ps qs mine its = ap₂ (measure_of_pairs a false) (ap all_terms mine) its.list
+unfolding coefficient_terms
+count_is a p q ps qs mine its = ap₂ (measure_of_pairs a false) (ap all_terms mine) its.list ∙ count-pairs a p q
 
 pub norm_is :
     (a : Name → Action) (p q : Operator) (ps : List OpTerm) (qs : List CoefficientTerm) → op_entries ps ≡ p.terms → IsPartsOf q qs →
     measure_of_pairs a true (all_terms (op_entries ps)) qs ≡ product_norm a p q
-unfolding product_norm coefficient_terms
-norm_is a p q ps qs mine its = ap₂ (measure_of_pairs a true) (ap all_terms mine) its.list
+unfolding coefficient_terms
+norm_is a p q ps qs mine its = ap₂ (measure_of_pairs a true) (ap all_terms mine) its.list ∙ norm-pairs a p q
 
 -- each pair makes a term at least
 row_counts :

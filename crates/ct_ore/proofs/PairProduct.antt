@@ -15,8 +15,7 @@ use Rattle.ct_algebra.specs.Operators.{Operator, operator_group, operator_set, t
 use Rattle.ct_algebra.proofs.OperatorTerms.{sums_are, term_of-single}
 use Rattle.ct_algebra.proofs.ProductRule.{operator_module, multiple-term_of, symbols_commute, product_of-term_of}
 use Rattle.ct_ore.specs.declared.coefficient_term.CoefficientTerm.{CoefficientTerm}
-use Rattle.ct_ore.specs.CoefficientTerms.{sum_of_parts}
-use Rattle.ct_ore.specs.Measures.{coefficient_terms}
+use Rattle.ct_ore.specs.CoefficientTerms.{sum_of_parts, coefficient_terms}
 use Rattle.ct_ore.specs.PairTerms.{expanded, multiplied, multiplied_by, product_terms}
 use Rattle.ct_ore.proofs.ChangedExponents.{power-is}
 use Rattle.ct_ore.proofs.CoefficientSums.{sum_of_parts-append, sum_of_coefficients}

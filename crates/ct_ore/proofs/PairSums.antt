@@ -9,8 +9,7 @@ use Rattle.ct_algebra.specs.Actions.{Action, Shift, Derive, Still}
 use Rattle.ct_ore.specs.declared.coefficient_term.CoefficientTerm.{CoefficientTerm}
 use Rattle.ct_ore.specs.declared.op.OpTerm.{OpTerm}
 use Rattle.ct_ore.specs.Terms.{op_entries}
-use Rattle.ct_ore.specs.CoefficientTerms.{size_of}
-use Rattle.ct_ore.specs.Measures.{all_terms}
+use Rattle.ct_ore.specs.CoefficientTerms.{size_of, all_terms}
 use Rattle.ct_ore.specs.PairWeights.{derivation_weight}
 use Rattle.ct_ore.specs.PairMeasures.{name_measure, names_measure, term_measure, symbols_measure, coefficient_measure, measure_of_row, measure_of_pairs}
 use Rattle.ct_ore.proofs.PairCounts.{sum_by-same, sum_by-scaled, scaled-sum, length-is}

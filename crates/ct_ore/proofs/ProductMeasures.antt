@@ -1,6 +1,7 @@
--- How many terms a product makes, and how large they are: main lemmas `product_count-is` and `product_norm-is`.
+-- How many terms a product makes, and how large they are: main lemmas `product_count-is` and `product_norm-is`, by `count-pairs`
+-- and `norm-pairs`, which say that the code's lists of terms have the pairs of the operators.
 -- What is done for some of the names, or for one term of the left factor, is no longer and no larger than the whole.
-use Rattle.std.proofs.Common.{◌≡◌, refl, ℕ, suc, ◌+◌, ◌*◌, ◌≤◌, ℤ, ◌*ℤ◌, nat_abs, List, [], ◌∷◌, map, length, sum_by, sym, ◌∙◌, ap, ap₂, arith, lit<, mul-zero}
+use Rattle.std.proofs.Common.{◌≡◌, refl, Bool, true, false, ℕ, suc, ◌+◌, ◌*◌, ◌≤◌, ℤ, ◌*ℤ◌, nat_abs, List, [], ◌∷◌, map, length, sum_by, sym, ◌∙◌, ap, ap₂, arith, lit<, mul-zero}
 use Rattle.std.proofs.lemmas.Int.{unsigned_abs-mul}
 use Rattle.std.proofs.lemmas.List.Concat.{length-flat_map}
 use Rattle.std.proofs.lemmas.List.Sums.{sum_by-cons}
@@ -12,8 +13,9 @@ use Rattle.ct_algebra.specs.Operators.{Operator}
 use Rattle.ct_mono.specs.Exponents.{with_exponent}
 use Rattle.ct_mono.proofs.ExponentLaws.{exp-with_exponent}
 use Rattle.ct_ore.specs.declared.coefficient_term.CoefficientTerm.{CoefficientTerm}
-use Rattle.ct_ore.specs.CoefficientTerms.{size_of}
-use Rattle.ct_ore.specs.Measures.{row_of, all_terms, coefficient_terms, count_of_pair, weight_of_pair, product_count, product_norm}
+use Rattle.ct_ore.specs.CoefficientTerms.{size_of, row_of, all_terms, coefficient_terms}
+use Rattle.ct_ore.specs.Measures.{over_terms, product_count, product_norm}
+use Rattle.ct_ore.specs.PairMeasures.{pair_measure, measure_of_row, measure_of_pairs}
 use Rattle.ct_ore.specs.PairWeights.{over_names, pair_count, pair_weight}
 use Rattle.ct_ore.specs.PairTerms.{raised, expanded, multiplied, multiplied_by, product_terms}
 use Rattle.ct_ore.proofs.PairCounts.{sum_by-same, sum_by-flat_map, sum_by-scaled, raised-count, raised-size, length-raised, size_of-raised, raised-larger}
@@ -183,22 +185,25 @@ sum_by-all_terms f es =
     sum_by-flat_map f (λ (e : Mono × Polynomial). row_of e.0 e.1.terms) es
     ∙ sum_by-same _ _ (λ e. sum_by-map f (λ (u : Mono × ℤ). record { symbols = e.0; names = u.0; number = u.1 }) e.1.terms) es
 
+abbrev pair_term : Mono → Mono → ℤ → CoefficientTerm
+pair_term m n x = record { symbols = m; names = n; number = x }
+
 module _ (a : Name → Action) where
   pub product_terms-count :
       (es : List (Mono × Polynomial)) (ts : List CoefficientTerm) →
-      length (product_terms a es ts) ≡ sum_by (λ s. sum_by (λ t. count_of_pair a s t) ts) (all_terms es)
+      length (product_terms a es ts) ≡ measure_of_pairs a false (all_terms es) ts
   product_terms-count es ts =
       length-flat_map (λ (e : Mono × Polynomial). multiplied_by e.1.terms (expanded a e.0 ts)) es
       ∙ sum_by-same _ _ (λ e. length-multiplied_by e.1.terms (expanded a e.0 ts) ∙ sum_by-same _ _ (λ u. expanded-count a e.0 ts) e.1.terms) es
-      ∙ sym (sum_by-all_terms (λ s. sum_by (λ t. count_of_pair a s t) ts) es)
+      ∙ sym (sum_by-all_terms (λ s. measure_of_row a false s ts) es)
 
   pub product_terms-size :
       (es : List (Mono × Polynomial)) (ts : List CoefficientTerm) →
-      size_of (product_terms a es ts) ≡ sum_by (λ s. sum_by (λ t. weight_of_pair a s t) ts) (all_terms es)
+      size_of (product_terms a es ts) ≡ measure_of_pairs a true (all_terms es) ts
   product_terms-size es ts =
       sum_by-flat_map (λ t. nat_abs t.number) (λ (e : Mono × Polynomial). multiplied_by e.1.terms (expanded a e.0 ts)) es
       ∙ sum_by-same _ _ (λ e. size_of-multiplied_by e.1.terms (expanded a e.0 ts) ∙ sum_by-same _ _ (λ u. weighed e.0 u) e.1.terms) es
-      ∙ sym (sum_by-all_terms (λ s. sum_by (λ t. weight_of_pair a s t) ts) es)
+      ∙ sym (sum_by-all_terms (λ s. measure_of_row a true s ts) es)
     where
       turned : (x y w : ℕ) → x * (y * w) ≡ x * y * w
       turned x y w = omega arith
@@ -206,7 +211,7 @@ module _ (a : Name → Action) where
       weighed :
           (m : Mono) (u : Mono × ℤ) →
           nat_abs u.1 * size_of (expanded a m ts) ≡
-          sum_by (λ t. weight_of_pair a (record { symbols = m; names = u.0; number = u.1 }) t) ts
+          measure_of_row a true (record { symbols = m; names = u.0; number = u.1 }) ts
       weighed m u =
           ap (λ n. nat_abs u.1 * n) (expanded-size a m ts)
           ∙ sym (sum_by-scaled (nat_abs u.1)
@@ -214,10 +219,27 @@ module _ (a : Name → Action) where
           ∙ sum_by-same _ _
           (λ t. turned (nat_abs u.1) (nat_abs t.number) (over_names (λ i. pair_weight a i (exp m (place i)) (exp t.names (place i))))) ts
 
-  pub product_count-is : (p q : Operator) → length (product_terms a p.terms (coefficient_terms q)) ≡ product_count a p q
+  -- the measure of all pairs of two lists is that of the operators
+  pairs_are :
+      (w : Bool) (p q : Operator) →
+      measure_of_pairs a w (all_terms p.terms) (all_terms q.terms) ≡
+      over_terms (λ m k x. over_terms (λ l n y. pair_measure a w (pair_term m k x) (pair_term l n y)) q) p
+  pairs_are w p q =
+      sum_by-all_terms (λ s. measure_of_row a w s (all_terms q.terms)) p.terms
+      ∙ (λ i. over_terms (λ m k x. sum_by-all_terms (pair_measure a w (pair_term m k x)) q.terms i) p)
+
+  pub count-pairs : (p q : Operator) → measure_of_pairs a false (coefficient_terms p) (coefficient_terms q) ≡ product_count a p q
   unfolding product_count coefficient_terms
-  product_count-is p q = product_terms-count p.terms (coefficient_terms q)
+  count-pairs p q = pairs_are false p q
+
+  pub norm-pairs : (p q : Operator) → measure_of_pairs a true (coefficient_terms p) (coefficient_terms q) ≡ product_norm a p q
+  unfolding product_norm coefficient_terms
+  norm-pairs p q = pairs_are true p q
+
+  pub product_count-is : (p q : Operator) → length (product_terms a p.terms (coefficient_terms q)) ≡ product_count a p q
+  unfolding coefficient_terms
+  product_count-is p q = product_terms-count p.terms (coefficient_terms q) ∙ count-pairs p q
 
   pub product_norm-is : (p q : Operator) → size_of (product_terms a p.terms (coefficient_terms q)) ≡ product_norm a p q
-  unfolding product_norm coefficient_terms
-  product_norm-is p q = product_terms-size p.terms (coefficient_terms q)
+  unfolding coefficient_terms
+  product_norm-is p q = product_terms-size p.terms (coefficient_terms q) ∙ norm-pairs p q

@@ -19,8 +19,8 @@ use Rattle.ct_mono.specs.Limits.{largest_degree}
 use Rattle.ct_mono.specs.declared.fault.Kind.{Kind}
 use Rattle.ct_poly.specs.Measures.{broken}
 use Rattle.ct_ore.specs.declared.coefficient_term.CoefficientTerm.{CoefficientTerm}
-use Rattle.ct_ore.specs.CoefficientTerms.{sum_of_parts, size_of}
-use Rattle.ct_ore.specs.Measures.{greatest, row_of, all_terms, coefficient_terms, coefficient_degree, order_of, product_overflow, checked_product}
+use Rattle.ct_ore.specs.CoefficientTerms.{sum_of_parts, size_of, row_of, all_terms, coefficient_terms}
+use Rattle.ct_ore.specs.Measures.{greatest, coefficient_degree, order_of, product_overflow, checked_product}
 use Rattle.ct_ore.specs.MeasureLaws.{FitsProduct}
 use Rattle.ct_ore.specs.PairTerms.{product_terms}
 use Rattle.ct_ore.specs.Bounds.{EachWithin, HasRoom, CanMultiply}
@@ -91,7 +91,8 @@ pub fits_none :
     (a : Name → Action) (p q : Operator) → (p ≡ no_operator → ⊥) → (q ≡ no_operator → ⊥) → FitsProduct a p q →
     product_overflow a p q ≡ None
 fits_none a p q left right fits =
-    sym (by_norm a p q (nonzero_product _ _ (nonempty p left) (nonempty q right)) fits.degrees fits.orders (le-ltb _ _ fits.count) false (le-ltb _ _ fits.norm))
+    let some = nonzero_product _ _ (nonempty p left) (nonempty q right) in
+    sym (by_norm a p q some fits.degrees fits.orders (le-ltb _ _ fits.count) false (le-ltb _ _ fits.norm))
 
 -- ---- the terms of both factors
 

@@ -13,8 +13,8 @@ use Rattle.ct_algebra.specs.Terms.{EachTerm, IsCanonical}
 use Rattle.ct_algebra.specs.WholeNumbers.{int_group}
 use Rattle.ct_algebra.proofs.OperatorTerms.{sums_are, none_is}
 use Rattle.ct_ore.specs.declared.coefficient_term.CoefficientTerm.{CoefficientTerm}
-use Rattle.ct_ore.specs.CoefficientTerms.{sum_of_parts, size_of}
-use Rattle.ct_ore.specs.Measures.{coefficient_terms, term_count, term_norm, greatest, coefficient_degree, order_of, product_count, product_norm}
+use Rattle.ct_ore.specs.CoefficientTerms.{sum_of_parts, size_of, coefficient_terms}
+use Rattle.ct_ore.specs.Measures.{term_count, term_norm, greatest, coefficient_degree, order_of, product_count, product_norm}
 use Rattle.ct_ore.specs.PairTerms.{expanded, multiplied, multiplied_by, product_terms}
 use Rattle.ct_ore.specs.Bounds.{EachWithin}
 use Rattle.ct_ore.proofs.OneTerm.{terms-term, some_term, term_count-one, term_norm-one, coefficient_degree-one, order_of-one}
@@ -35,7 +35,7 @@ pub record IsBounded (terms size names symbols : ℕ) (p : Operator) : Type 0 wh
   pub orders : order_of p ≤ symbols
 
 none_bounded : (b d : ℕ) → IsBounded 0 0 d b no_operator
-unfolding term_count term_norm coefficient_terms coefficient_degree order_of no_operator none
+unfolding term_count term_norm coefficient_degree order_of no_operator none
 none_bounded b d = record { few = omega arith; small = omega arith; degrees = omega arith; orders = omega arith }
 
 value_bounded :
@@ -99,16 +99,25 @@ module _ (a : Name → Action) where
   within-product_terms o g b d (e ∷ es) ts orders degrees each =
       within-append (o + b) (g + d) (multiplied_by e.1.terms (expanded a e.0 ts)) (product_terms a es ts)
       (within-weaker (b + total e.0) (degree e.1 + d) (o + b) (g + d) (omega arith) (omega arith) _
-      (within-multiplied_by (b + total e.0) d (degree e.1) e.1.terms (expanded a e.0 ts) e.1.canonical (degree_greatest e.1) (within-expanded a e.0 ts b d each)))
+      (within-multiplied_by (b + total e.0) d (degree e.1) e.1.terms (expanded a e.0 ts) e.1.canonical (degree_greatest e.1)
+      (within-expanded a e.0 ts b d each)))
       (within-product_terms o g b d es ts (omega arith) (omega arith) each)
 
-  pub product_within :
-      (p q : Operator) →
-      IsBounded (product_count a p q) (product_norm a p q) (coefficient_degree p + coefficient_degree q) (order_of p + order_of q)
-      (product_of a p q)
-  unfolding order_of coefficient_degree
-  product_within p q =
-      let each = within-product_terms (order_of p) (coefficient_degree p) (order_of q) (coefficient_degree q) p.terms (coefficient_terms q) (omega arith) (omega arith) (coefficients_within q) in
-      let bounded = parts_bounded (order_of p + order_of q) (coefficient_degree p + coefficient_degree q) (product_terms a p.terms (coefficient_terms q)) each in
-      subst (IsBounded (product_count a p q) (product_norm a p q) (coefficient_degree p + coefficient_degree q) (order_of p + order_of q)) (product-value a p q)
-      (subst₂ (λ n s. IsBounded n s (coefficient_degree p + coefficient_degree q) (order_of p + order_of q) (sum_of_parts (product_terms a p.terms (coefficient_terms q)))) (product_count-is a p q) (product_norm-is a p q) bounded)
+  module _ (p q : Operator) where
+    abbrev parts : List CoefficientTerm
+    parts = product_terms a p.terms (coefficient_terms q)
+
+    abbrev pub IsWithinFactors : ℕ → ℕ → Operator → Type 0
+    IsWithinFactors terms size r = IsBounded terms size (coefficient_degree p + coefficient_degree q) (order_of p + order_of q) r
+
+    parts_each : EachWithin (order_of p + order_of q) (coefficient_degree p + coefficient_degree q) parts
+    unfolding order_of coefficient_degree
+    parts_each =
+        within-product_terms (order_of p) (coefficient_degree p) (order_of q) (coefficient_degree q) p.terms (coefficient_terms q)
+        (omega arith) (omega arith) (coefficients_within q)
+
+    pub product_within : IsWithinFactors (product_count a p q) (product_norm a p q) (product_of a p q)
+    product_within =
+        subst (IsWithinFactors (product_count a p q) (product_norm a p q)) (product-value a p q)
+        (subst₂ (λ n s. IsWithinFactors n s (sum_of_parts parts)) (product_count-is a p q) (product_norm-is a p q)
+        (parts_bounded (order_of p + order_of q) (coefficient_degree p + coefficient_degree q) parts parts_each))

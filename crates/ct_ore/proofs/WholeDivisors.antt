@@ -21,11 +21,11 @@ use Rattle.ct_poly.proofs.WholeDivisors.{each_divides, divided_by_one}
 use Rattle.ct_ore.specs.declared.coefficient_term.CoefficientTerm.{CoefficientTerm}
 use Rattle.ct_ore.specs.declared.op.OpTerm.{OpTerm}
 use Rattle.ct_ore.specs.Terms.{op_entries}
-use Rattle.ct_ore.specs.CoefficientTerms.{size_of}
-use Rattle.ct_ore.specs.Measures.{row_of, all_terms, coefficient_terms, term_count, term_norm}
+use Rattle.ct_ore.specs.CoefficientTerms.{size_of, row_of, all_terms, coefficient_terms}
+use Rattle.ct_ore.specs.Measures.{term_count, term_norm}
 use Rattle.ct_ore.specs.Lists.{Fits}
 use Rattle.ct_ore.specs.Wholes.{DividesTerms, DividesOperator, IsCommonDivisor, coefficients_of, common_divisor, entry_over, over_whole}
-use Rattle.ct_ore.proofs.OperatorMeasures.{length-row, size-row}
+use Rattle.ct_ore.proofs.OperatorMeasures.{count-coefficient_terms, norm-coefficient_terms, length-row, size-row}
 use Rattle.ct_ore.proofs.WrittenForm.{coefficients_written}
 use Rattle.ct_ore.proofs.WrittenOperators.{terms-operator_of}
 
@@ -180,11 +180,11 @@ size_over d (e ∷ es) all =
     )
 
 pub over_fits : (d : ℕ) (p : Operator) → DividesOperator d p → term_count p ≤ most_terms → term_norm p ≤ largest_norm → Fits (coefficient_terms (over_whole d p))
-unfolding term_count term_norm coefficient_terms
+unfolding coefficient_terms
 over_fits d p all few small =
     let terms = over_terms d p all in
     record {
       written = coefficients_written (over_whole d p);
-      few = omega (arith, few, ap (λ es. length (all_terms es)) terms, length_over d p.terms all);
-      small = omega (arith, small, ap (λ es. size_of (all_terms es)) terms, size_over d p.terms all);
+      few = omega (arith, few, count-coefficient_terms p, ap (λ es. length (all_terms es)) terms, length_over d p.terms all);
+      small = omega (arith, small, norm-coefficient_terms p, ap (λ es. size_of (all_terms es)) terms, size_over d p.terms all);
     }

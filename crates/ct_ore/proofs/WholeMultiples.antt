@@ -14,11 +14,13 @@ use Rattle.ct_mono.specs.Limits.{largest_degree, most_terms, largest_norm}
 use Rattle.ct_mono.specs.declared.fault.Kind.{Kind}
 use Rattle.ct_mono.specs.declared.fault.Kind.TheVariants.{Number}
 use Rattle.ct_poly.specs.Measures.{broken}
-use Rattle.ct_ore.specs.CoefficientTerms.{size_of}
-use Rattle.ct_ore.specs.Measures.{all_terms, coefficient_terms, term_count, term_norm, coefficient_degree, order_of, product_count, product_norm, product_overflow, checked_product}
+use Rattle.ct_ore.specs.CoefficientTerms.{all_terms, coefficient_terms}
+use Rattle.ct_ore.specs.Measures.{term_count, term_norm, coefficient_degree, order_of, product_count, product_norm, product_overflow, checked_product}
 use Rattle.ct_ore.specs.PairMeasures.{coefficient_measure, symbols_measure, measure_of_pairs}
 use Rattle.ct_ore.specs.Wholes.{whole_operator, checked_multiple}
-use Rattle.ct_ore.proofs.OperatorMeasures.{terms-term_of}
+use Rattle.ct_ore.specs.TermSums.{entries_norm}
+use Rattle.ct_ore.proofs.OperatorMeasures.{count-coefficient_terms, norm-coefficient_terms, terms-term_of}
+use Rattle.ct_ore.proofs.ProductMeasures.{count-pairs, norm-pairs}
 use Rattle.ct_ore.proofs.OneTerm.{terms-term, some_term, coefficient_degree-one, order_of-one, total_unit}
 use Rattle.ct_ore.proofs.PairMeasureLaws.{begin, none_of_zero}
 use Rattle.ct_ore.proofs.PairSums.{pairs_together, together-cons, together-none, no_symbols-weight, no_symbols-count}
@@ -35,10 +37,10 @@ once a p small =
 
 -- without terms there is no norm
 no_norm : (p : Operator) → length p.terms ≡ 0 → term_norm p ≡ 0
-unfolding term_norm coefficient_terms
+unfolding term_norm
 no_norm p none = by p.terms none
   where
-    by : (es : List (Mono × Polynomial)) → length es ≡ 0 → size_of (all_terms es) ≡ 0
+    by : (es : List (Mono × Polynomial)) → length es ≡ 0 → entries_norm es ≡ 0
     by [] none = refl
     by (e ∷ es) none = absurd (omega (arith, none))
 
@@ -83,14 +85,15 @@ module _ (n : ℕ) (some : 0 < n) where
         ∙ let none = together-none a w qs [] refl in omega (arith, none)
 
     counted : product_count a (whole_operator n) p ≡ term_count p
-    unfolding product_count term_count
     counted =
-        measured false ∙ ap₂ ◌*◌ (ap (λ (es : List (Mono × ℤ)). length es) number_terms) (sym (no_symbols-count a unit total_unit (coefficient_terms p)))
+        sym (count-pairs a (whole_operator n) p) ∙ measured false
+        ∙ ap₂ ◌*◌ (ap (λ (es : List (Mono × ℤ)). length es) number_terms) (sym (no_symbols-count a unit total_unit (coefficient_terms p)) ∙ count-coefficient_terms p)
         ∙ omega arith
 
     weighed : product_norm a (whole_operator n) p ≡ n * term_norm p
-    unfolding product_norm term_norm
-    weighed = measured true ∙ ap₂ ◌*◌ number_norm (sym (no_symbols-weight a unit total_unit (coefficient_terms p)))
+    weighed =
+        sym (norm-pairs a (whole_operator n) p) ∙ measured true
+        ∙ ap₂ ◌*◌ number_norm (sym (no_symbols-weight a unit total_unit (coefficient_terms p)) ∙ norm-coefficient_terms p)
 
     module _ (low : coefficient_degree p ≤ largest_degree) (low_order : order_of p ≤ largest_degree) (few : term_count p ≤ most_terms) where
       rule : product_overflow a (whole_operator n) p ≡ broken (ltb largest_norm (n * term_norm p)) Number None

@@ -14,8 +14,7 @@ use Rattle.ct_algebra.specs.Substitution.{term, term_is}
 use Rattle.ct_algebra.specs.Operators.{Operator, operator_group}
 use Rattle.ct_algebra.proofs.OperatorTerms.{at-term_of}
 use Rattle.ct_ore.specs.declared.coefficient_term.CoefficientTerm.{CoefficientTerm}
-use Rattle.ct_ore.specs.CoefficientTerms.{by_parts, pair_cmp, pair_cmp_is, keyed, part, sum_of_parts, IsWritten}
-use Rattle.ct_ore.specs.Measures.{row_of, all_terms, coefficient_terms}
+use Rattle.ct_ore.specs.CoefficientTerms.{by_parts, pair_cmp, pair_cmp_is, keyed, part, sum_of_parts, IsWritten, row_of, all_terms, coefficient_terms}
 use Rattle.ct_ore.proofs.CoefficientSums.{sum_of_coefficients}
 
 -- ---- values at keys

@@ -4,14 +4,16 @@
 --     sum_of_parts ts      the operator that a list adds up to
 --     IsWritten ts         keys fall, and no number is zero
 --     size_of ts           the sum of the absolute values of the numbers
--- An operator has one such list; `coefficient_terms` of Measures gives it.
-use Rattle.std.specs.Prelude.{ℕ, ℤ, nat_abs, List, map, sum_by}
+--     coefficient_terms p  the terms of all coefficients of an operator, in written form
+-- An operator has one such list.
+use Rattle.std.specs.Prelude.{ℕ, ℤ, nat_abs, List, map, flat_map, sum_by}
 use Rattle.std.proofs.Common.{sym, ◌∙◌, ap, Ordering, Less, Equal, Greater, ◌≡◌, refl}
 use Rattle.std.specs.Ordering.{ordering_then, ordering_reverse, then_cmp, on}
 use Rattle.std.specs.Cmp.{IsTotalOrder, then_total, on_total, tied_itself}
 use Rattle.ct_algebra.specs.Terms.{Keys, total, IsCanonical}
 use Rattle.ct_algebra.specs.WholeNumbers.{int_group}
 use Rattle.ct_algebra.specs.Monomial.{Mono, mono_set, mono_cmp, mono_tied, mono_cmp_total}
+use Rattle.ct_algebra.specs.Polynomial.{Polynomial}
 use Rattle.ct_algebra.specs.Substitution.{term}
 use Rattle.ct_algebra.specs.Operators.{Operator, operator_group, term_of}
 use Rattle.ct_ore.specs.declared.coefficient_term.CoefficientTerm.{CoefficientTerm}
@@ -80,3 +82,15 @@ IsWritten ts = IsCanonical by_parts int_group (keyed ts)
 
 abbrev pub size_of : List CoefficientTerm → ℕ
 size_of ts = sum_by (λ t. nat_abs t.number) ts
+
+-- ---- the list of an operator
+
+-- the terms of a coefficient, with the symbols m that it stands before
+abbrev pub row_of : Mono → List (Mono × ℤ) → List CoefficientTerm
+row_of m es = map (λ e. record { symbols = m; names = e.0; number = e.1 }) es
+
+abbrev pub all_terms : List (Mono × Polynomial) → List CoefficientTerm
+all_terms es = flat_map (λ e. row_of e.0 e.1.terms) es
+
+unfoldable pub coefficient_terms : Operator → List CoefficientTerm
+coefficient_terms p = all_terms p.terms

@@ -20,9 +20,8 @@ use Rattle.ct_poly.specs.Terms.{entries}
 use Rattle.ct_ore.specs.declared.coefficient_term.CoefficientTerm.{CoefficientTerm}
 use Rattle.ct_ore.specs.declared.op.OpTerm.{OpTerm}
 use Rattle.ct_ore.specs.Terms.{op_entries}
-use Rattle.ct_ore.specs.CoefficientTerms.{by_parts, pair_cmp, key, keyed, sum_of_parts, IsWritten, size_of}
+use Rattle.ct_ore.specs.CoefficientTerms.{by_parts, pair_cmp, key, keyed, sum_of_parts, IsWritten, size_of, row_of, all_terms, coefficient_terms}
 use Rattle.ct_ore.specs.Bounds.{EachWithin}
-use Rattle.ct_ore.specs.Measures.{row_of, all_terms, coefficient_terms}
 
 pub record Fits (ts : List CoefficientTerm) : Type 0 where
   pub written : IsWritten ts

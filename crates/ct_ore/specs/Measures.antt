@@ -1,16 +1,17 @@
 -- When arithmetic on operators overflows, by the measures of the operands (this project's own rules).
---     coefficient_terms p       every term of every coefficient of p, with the symbols before it
---     term_count, term_norm     how many these are, and the sum of their absolute values
+--     term_count, term_norm     how many terms all coefficients have, and the sum of the absolute values of their numbers
 --     coefficient_degree        the greatest degree of a coefficient;  order_of   the greatest total of the symbols
+--     over_terms f p            f of every term of every coefficient, with the symbols before it, added up
+--     product_count, product_norm      how many terms all pairs make, and the sum of their absolute values
 --     checked_sum, checked_difference, checked_product, checked_combination
 --         the exact value, or the kind of the first rule that is broken
 -- An operator is measured as a polynomial in names and symbols. A product with zero never overflows. Of a product, every
 -- pair of a coefficient term of the left factor and one of the right is counted and weighed, as if nothing were gathered.
-use Rattle.std.specs.Prelude.{ℕ, ◌+◌, ◌*◌, ℤ, nat_abs, max, cond, ltb, eqb, Ok, None, List, [], ◌∷◌, map, flat_map, length, sum_by}
+use Rattle.std.specs.Prelude.{ℕ, ◌+◌, ◌*◌, ℤ, nat_abs, max, cond, ltb, eqb, Ok, None, List, [], ◌∷◌, map, length, sum_by}
 use Rattle.std.proofs.Common.{Option}
 use Rattle.ct_algebra.specs.Monomial.{Mono, exp, total}
 use Rattle.ct_algebra.specs.Names.{Name, place}
-use Rattle.ct_algebra.specs.Polynomial.{Polynomial, degree}
+use Rattle.ct_algebra.specs.Polynomial.{count, norm, degree}
 use Rattle.ct_algebra.specs.Actions.{Action}
 use Rattle.ct_algebra.specs.Operators.{Operator, sum_of_operators, negative, product_of}
 use Rattle.ct_mono.specs.Limits.{largest_degree, most_terms, largest_norm}
@@ -18,26 +19,15 @@ use Rattle.ct_mono.specs.Checked.{Checked, verdict, ◌>>=◌}
 use Rattle.ct_mono.specs.declared.fault.Kind.{Kind}
 use Rattle.ct_mono.specs.declared.fault.Kind.TheVariants.{Degree, Terms, Number}
 use Rattle.ct_poly.specs.Measures.{broken}
-use Rattle.ct_ore.specs.declared.coefficient_term.CoefficientTerm.{CoefficientTerm}
 use Rattle.ct_ore.specs.PairWeights.{over_names, pair_count, pair_weight}
 
 -- ---- measures of one operator
 
--- the terms of a coefficient, with the symbols m that it stands before
-abbrev pub row_of : Mono → List (Mono × ℤ) → List CoefficientTerm
-row_of m es = map (λ e. record { symbols = m; names = e.0; number = e.1 }) es
-
-abbrev pub all_terms : List (Mono × Polynomial) → List CoefficientTerm
-all_terms es = flat_map (λ e. row_of e.0 e.1.terms) es
-
-unfoldable pub coefficient_terms : Operator → List CoefficientTerm
-coefficient_terms p = all_terms p.terms
-
 unfoldable pub term_count : Operator → ℕ
-term_count p = length (coefficient_terms p)
+term_count p = sum_by (λ e. count e.1) p.terms
 
 unfoldable pub term_norm : Operator → ℕ
-term_norm p = sum_by (λ t. nat_abs t.number) (coefficient_terms p)
+term_norm p = sum_by (λ e. norm e.1) p.terms
 
 abbrev pub greatest : List ℕ → ℕ
 greatest [] = 0
@@ -67,21 +57,24 @@ checked_difference p q = verdict (sum_overflow p q) (difference_of_operators p q
 
 -- ---- products
 
+-- what f says of the symbols, the names and the number of each coefficient term, added up
+abbrev pub over_terms : (Mono → Mono → ℤ → ℕ) → Operator → ℕ
+over_terms f p = sum_by (λ e. sum_by (λ u. f e.0 u.0 u.1) e.1.terms) p.terms
+
 module _ (a : Name → Action) where
-  -- how many terms a pair makes, and of which weight
-  abbrev pub count_of_pair : CoefficientTerm → CoefficientTerm → ℕ
-  count_of_pair s t = over_names (λ i. pair_count a i (exp s.symbols (place i)) (exp t.names (place i)))
+  -- how many terms symbols m make of names n, and of which weight
+  abbrev pub count_of_pair : Mono → Mono → ℕ
+  count_of_pair m n = over_names (λ i. pair_count a i (exp m (place i)) (exp n (place i)))
 
-  abbrev pub weight_of_pair : CoefficientTerm → CoefficientTerm → ℕ
-  weight_of_pair s t =
-      nat_abs s.number * nat_abs t.number * over_names (λ i. pair_weight a i (exp s.symbols (place i)) (exp t.names (place i)))
+  abbrev pub weight_of_pair : Mono → Mono → ℕ
+  weight_of_pair m n = over_names (λ i. pair_weight a i (exp m (place i)) (exp n (place i)))
 
-  -- the same over all pairs
+  -- the same over all pairs, each weight times the absolute values of both numbers
   unfoldable pub product_count : Operator → Operator → ℕ
-  product_count p q = sum_by (λ s. sum_by (λ t. count_of_pair s t) (coefficient_terms q)) (coefficient_terms p)
+  product_count p q = over_terms (λ m _ x. over_terms (λ _ n y. count_of_pair m n) q) p
 
   unfoldable pub product_norm : Operator → Operator → ℕ
-  product_norm p q = sum_by (λ s. sum_by (λ t. weight_of_pair s t) (coefficient_terms q)) (coefficient_terms p)
+  product_norm p q = over_terms (λ m _ x. over_terms (λ _ n y. nat_abs x * nat_abs y * weight_of_pair m n) q) p
 
   unfoldable pub product_overflow : Operator → Operator → Option Kind
   product_overflow p q =

@@ -23,7 +23,8 @@ HasNumbers (t ∷ ts) = (0 < nat_abs t.number) × HasNumbers ts
 
 module _ (a : Name → Action) (w : Bool) where
   abbrev pub pair_measure : CoefficientTerm → CoefficientTerm → ℕ
-  pair_measure s t = cond w (weight_of_pair a s t) (count_of_pair a s t)
+  pair_measure s t =
+      cond w (nat_abs s.number * nat_abs t.number * weight_of_pair a s.symbols t.names) (count_of_pair a s.symbols t.names)
 
   abbrev pub measure_of_row : CoefficientTerm → List CoefficientTerm → ℕ
   measure_of_row s qs = sum_by (λ t. pair_measure s t) qs

@@ -3,8 +3,7 @@ ghost use Rattle.std.specs.Prelude.{◌≡◌, ◌≤◌, ◌++◌, IfOk, length
 ghost use Rattle.ct_mono.specs.Limits.{most_terms, largest_norm};
 ghost use Rattle.ct_poly.specs.Terms.{entries};
 ghost use Rattle.ct_ore.specs.Terms.{op_entries};
-ghost use Rattle.ct_ore.specs.CoefficientTerms.{sum_of_parts, IsWritten};
-ghost use Rattle.ct_ore.specs.Measures.{row_of, all_terms};
+ghost use Rattle.ct_ore.specs.CoefficientTerms.{sum_of_parts, IsWritten, row_of, all_terms};
 ghost use Rattle.ct_ore.specs.TermSums.{entries_norm};
 ghost use Rattle.ct_ore.specs.Lists.{Fits, AllHave, IsRun, IsRunLength, without_symbols};
 

@@ -1,6 +1,6 @@
 use Rattle.std.proofs.Common.{◌≡◌, ◌++◌, length}
 use Rattle.ct_ore.specs.Terms.{op_entries}
-use Rattle.ct_ore.specs.Measures.{all_terms}
+use Rattle.ct_ore.specs.CoefficientTerms.{all_terms}
 use Rattle.ct_ore.proofs.coefficients.parts_of.Given as goal
 
 abbrev pub invariant-listing : goal.invariant-listing

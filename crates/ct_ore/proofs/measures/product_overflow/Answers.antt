@@ -2,7 +2,8 @@ use Rattle.std.proofs.Common.{◌≡◌, ◌≢◌, ◌*◌, ◌+◌, ◌≤◌,
 use Rattle.ct_mono.specs.Limits.{largest_degree, most_terms, largest_norm}
 use Rattle.ct_ore.specs.Naming.{actions_of}
 use Rattle.ct_ore.specs.Terms.{op_entries}
-use Rattle.ct_ore.specs.Measures.{all_terms, coefficient_degree, order_of}
+use Rattle.ct_ore.specs.CoefficientTerms.{all_terms}
+use Rattle.ct_ore.specs.Measures.{coefficient_degree, order_of}
 use Rattle.ct_ore.specs.PairMeasures.{measure_of_pairs}
 use Rattle.ct_ore.proofs.PairMeasureLaws.{none_of_zero, by_degree, by_order, by_count, by_norm, length_is, coefficient_degree_is, order_is, count_is, norm_is, pairs_count, nonzero_product, told_nonzero}
 use Rattle.ct_ore.proofs.measures.product_overflow.Goals as goal

@@ -1,7 +1,8 @@
 use Rattle.std.proofs.Common.{◌≤◌, sym, ◌∙◌, subst, arith}
 use Rattle.ct_mono.specs.Limits.{most_terms, largest_norm}
 use Rattle.ct_ore.specs.Terms.{op_entries}
-use Rattle.ct_ore.proofs.OperatorSums.{listed_count, listed_norm, sum_too_many, sum_too_large, sum_allowed}
+use Rattle.ct_ore.proofs.OperatorMeasures.{listed_count, listed_norm}
+use Rattle.ct_ore.proofs.OperatorSums.{sum_too_many, sum_too_large, sum_allowed}
 use Rattle.ct_ore.proofs.op.Op.fits_sum.Goals as goal
 
 pub term_count-requires : goal.term_count-requires

@@ -1,12 +1,12 @@
-use Rattle.std.proofs.Common.{◌≡◌, ◌≤◌, length, None, ◌∙◌, sym, ap, subst}
-use Rattle.ct_mono.specs.Limits.{most_terms}
+use Rattle.std.proofs.Common.{◌≡◌, None, ◌∙◌, sym, ap, subst, arith}
 use Rattle.ct_ore.specs.Naming.{actions_of}
 use Rattle.ct_ore.specs.Terms.{op_entries}
 use Rattle.ct_ore.specs.CoefficientTerms.{sum_of_parts}
-use Rattle.ct_ore.specs.Measures.{all_terms, coefficient_terms, term_count, product_overflow}
+use Rattle.ct_ore.specs.Measures.{product_overflow}
 use Rattle.ct_ore.specs.MeasureLaws.{FitsProduct}
 use Rattle.ct_ore.specs.Bounds.{CanMultiply}
 use Rattle.ct_ore.specs.Lists.{Fits, IsPartsOf}
+use Rattle.ct_ore.proofs.OperatorMeasures.{listed_count}
 use Rattle.ct_ore.proofs.ProductRules.{zero_left, zero_right, none_fits, can_multiply, product_fits, answers_value, answers_kind, told_some}
 use Rattle.ct_ore.proofs.op.Op.mul.Goals as goal
 
@@ -17,11 +17,10 @@ pub returns-then-is_zero-2 : goal.returns-then-is_zero-2
 returns-then-is_zero-2 c = zero_right (actions_of c.args.algebra.now) c.args.self.now c.args.other.now c.zero-then-is_zero-2.result (c.is_zero-2.ensures.0 c.if-is_zero-2.true) c.zero-then-is_zero-2.ensures
 
 pub product_overflow-requires : goal.product_overflow-requires
-unfolding term_count coefficient_terms
 product_overflow-requires c =
     let its = subst Fits (sym c.as_slice.ensures.value) c.in_ok-its.ensures.fits in
     record {
-      few = subst (λ es. length (all_terms es) ≤ most_terms) (sym c.terms.ensures) c.within_limits.ensures.few;
+      few = omega (arith, listed_count c.args.self.now (op_entries c.terms.result.now) c.terms.ensures, c.within_limits.ensures.few);
       few_too = its.few;
       small = its.small;
     }

@@ -1,17 +1,17 @@
-use Rattle.std.proofs.Common.{◌≡◌, ◌≤◌, ◌∙◌, ap, sym, subst, length}
+use Rattle.std.proofs.Common.{◌≡◌, ◌≤◌, ◌∙◌, ap, sym, subst, arith}
 use Rattle.ct_mono.specs.Limits.{most_terms}
 use Rattle.ct_ore.specs.Terms.{op_entries}
-use Rattle.ct_ore.specs.Measures.{all_terms, coefficient_terms, term_count}
+use Rattle.ct_ore.specs.CoefficientTerms.{all_terms, coefficient_terms}
+use Rattle.ct_ore.specs.Measures.{term_count}
 use Rattle.ct_ore.specs.Lists.{Fits}
 use Rattle.ct_ore.proofs.WrittenOperators.{terms_of}
-use Rattle.ct_ore.proofs.OperatorMeasures.{fits_of_invariant}
+use Rattle.ct_ore.proofs.OperatorMeasures.{listed_count, fits_of_invariant}
 use Rattle.ct_ore.proofs.op.Op.parts.Goals as goal
 
 pub parts_of-requires : goal.parts_of-requires
-unfolding term_count coefficient_terms
 parts_of-requires c =
-    subst (λ es. length (all_terms es) ≤ most_terms) (sym (ap op_entries c.as_slice.ensures.value ∙ terms_of c.self.inside.terms.items c.self.invariant.0 c.self.view_is))
-    (subst (λ p. term_count p ≤ most_terms) c.self.view_is c.self.invariant.1)
+    let same = ap op_entries c.as_slice.ensures.value ∙ terms_of c.self.inside.terms.items c.self.invariant.0 c.self.view_is in
+    omega (arith, listed_count c.args.self.now (op_entries c.as_slice.result.now) same, subst (λ p. term_count p ≤ most_terms) c.self.view_is c.self.invariant.1)
 
 pub returns : goal.returns
 unfolding coefficient_terms
