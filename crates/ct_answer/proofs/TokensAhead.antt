@@ -1,4 +1,4 @@
--- A token's bytes at the front of a text are the first piece of it, where what follows is no more of the token. Main lemmas
+-- A token's bytes at the start of a text are the first piece of it, where what follows is no more of the token. Main lemmas
 -- `word_ahead`, `number_ahead`, `sign_ahead` and `blank_ahead`: the other direction of what a scan makes of a text.
 use Rattle.std.proofs.Common.{◌≡◌, ℕ, suc, ◌+◌, ◌<◌, ◌≤◌, ◌==◌, ◌&&◌, Bool, true, false, List, [], ◌∷◌, ◌++◌, length, IsTrue, refl, ap, ◌∙◌, arith, rules, tests, ne_eqb, nat_le}
 use Rattle.std.specs.List.{prefix_len, take_while, list_all}
