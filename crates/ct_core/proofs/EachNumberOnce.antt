@@ -6,11 +6,11 @@ use Rattle.std.proofs.Common.{◌≡◌, ◌⊎◌, inl, inr, ⊎_elim, ℕ, ◌
 use Rattle.std.specs.Prelude.{◌==◌, nat_lt, nat_le, IfSome, is_some}
 use Rattle.std.proofs.lemmas.Bool.Decides.{nat_tests}
 use Rattle.ct_core.specs.Machine.{Sight}
-use Rattle.ct_core.specs.Counting.{total, one_if, times, once_below, Each}
+use Rattle.ct_core.specs.Counting.{sum_over, one_if, times, once_below, Each}
 use Rattle.ct_core.specs.Steps.{some_and, may_stop}
 use Rattle.ct_core.specs.CompleteList.{has_hit, has_ended, DecidedBy}
 use Rattle.ct_core.specs.Kept.{list_of, Reaches, Fits, Kept}
-use Rattle.ct_core.proofs.Totals.{total-append, total_same, total_below, total_zero, each_map, sum_below-times, times_none}
+use Rattle.ct_core.proofs.Totals.{sum_over-append, sum_over-same, sum_over-below, sum_over-zero, each_map, sum_below-times, times_none}
 use Rattle.ct_core.proofs.EventsKeep.{some_and_is}
 
 or_parts : (a b : Bool) → (a || b) ≡ true → (a ≡ true) ⊎ (b ≡ true)
@@ -68,7 +68,7 @@ claims_at : (count x p : ℕ) (least : Option ℕ) (v : Sight) → v.pending ≡
 claims_at count x p least v is f =
     let e : v.claims ≡ v.refuted ++ p ∷ [] = f.claims_are ∙ ap (λ o. v.refuted ++ list_of o) is in
     let a : times x v.claims ≡ times x (v.refuted ++ p ∷ []) = ap (times x) e in
-    let b = total-append (λ y. one_if (y == x)) v.refuted (p ∷ []) in omega arith
+    let b = sum_over-append (λ y. one_if (y == x)) v.refuted (p ∷ []) in omega arith
 
 -- what an ended worker claimed below that, it refuted
 all_refuted : (count x : ℕ) (least : Option ℕ) (v : Sight) → x < count → IfSome least (λ m. x < m) → Fits count least v → has_ended count v ≡ true → times x v.refuted ≡ times x v.claims
@@ -88,7 +88,7 @@ claimed_past count next x least (v ∷ vs) some_one below low k e =
     let t = ended_above count x least v.hit v refl e.0 below low k.fits.0 in
     let p : ℕ = t.0 in
     let a = claims_at count p p least v t.1 k.fits.0 in
-    let b : times p v.claims + total (λ v. times p v.claims) vs ≡ once_below p next = k.claimed (λ y. one_if (y == p)) ∙ sum_below-times p next in
+    let b : times p v.claims + sum_over (λ v. times p v.claims) vs ≡ once_below p next = k.claimed (λ y. one_if (y == p)) ∙ sum_below-times p next in
     let one : one_if (p == p) ≡ 1 = same p in
     let q : x < p = t.2 in
     let c : 1 ≤ once_below p next = omega arith in
@@ -100,10 +100,10 @@ claimed_past count next x least (v ∷ vs) some_one below low k e =
     is_below : (p n : ℕ) → 1 ≤ once_below p n → p < n
     is_below p n h = grind (arith, nat_tests)
 
-refuted_once : (count next x : ℕ) (least : Option ℕ) (views : List Sight) → 0 < length views → x < count → IfSome least (λ m. x < m) → Kept count next least views → Each (λ v. has_ended count v ≡ true) views → total (λ v. times x v.refuted) views ≡ 1
+refuted_once : (count next x : ℕ) (least : Option ℕ) (views : List Sight) → 0 < length views → x < count → IfSome least (λ m. x < m) → Kept count next least views → Each (λ v. has_ended count v ≡ true) views → sum_over (λ v. times x v.refuted) views ≡ 1
 refuted_once count next x least views some_one below low k e =
-    let a = total_same (λ v. times x v.refuted) (λ v. times x v.claims) views (each_both (Fits count least) (λ v. has_ended count v ≡ true) (λ v. times x v.refuted ≡ times x v.claims) views (λ v f h. all_refuted count x least v below low f h) k.fits e) in
-    let b : total (λ v. times x v.claims) views ≡ once_below x next = k.claimed (λ y. one_if (y == x)) ∙ sum_below-times x next in
+    let a = sum_over-same (λ v. times x v.refuted) (λ v. times x v.claims) views (each_both (Fits count least) (λ v. has_ended count v ≡ true) (λ v. times x v.refuted ≡ times x v.claims) views (λ v f h. all_refuted count x least v below low f h) k.fits e) in
+    let b : sum_over (λ v. times x v.claims) views ≡ once_below x next = k.claimed (λ y. one_if (y == x)) ∙ sum_below-times x next in
     let c = claimed_past count next x least views some_one below low k e in
     let d : once_below x next ≡ 1 = is_one x next c in omega arith
   where
@@ -111,9 +111,9 @@ refuted_once count next x least views some_one below low k e =
     is_one p n h = grind (arith, nat_tests)
 
 -- nothing at or past the count is refuted
-refuted_not : (count next x : ℕ) (least : Option ℕ) (views : List Sight) → count ≤ x → Kept count next least views → total (λ v. times x v.refuted) views ≡ 0
+refuted_not : (count next x : ℕ) (least : Option ℕ) (views : List Sight) → count ≤ x → Kept count next least views → sum_over (λ v. times x v.refuted) views ≡ 0
 refuted_not count next x least views past k =
-    total_zero (λ v. times x v.refuted) views (each_map (Fits count least) (λ v. times x v.refuted ≡ 0) views (λ v f. times_none x v.refuted (each_map (λ y. y < count) (λ y. y < x) v.refuted (λ y h. omega arith) f.refuted_below)) k.fits)
+    sum_over-zero (λ v. times x v.refuted) views (each_map (Fits count least) (λ v. times x v.refuted ≡ 0) views (λ v f. times_none x v.refuted (each_map (λ y. y < count) (λ y. y < x) v.refuted (λ y h. omega arith) f.refuted_below)) k.fits)
 
 lt_or : (a b : ℕ) → (a < b) ⊎ (b ≤ a)
 lt_or a b = grind arith
@@ -140,21 +140,21 @@ module _ (count next : ℕ) (views : List Sight) where
   least_below m k =
       ⊎_elim (λ (h : m < count). h)
       (λ (h : count ≤ m).
-      let z = total_zero (has_hit m) views (each_map (Fits count (Some m)) (λ v. has_hit m v ≡ 0) views (λ v f. hit_within count m (Some m) v.hit v h refl f) k.fits) in
-      let o : 1 ≤ total (has_hit m) views = k.least_hit in absurd (omega arith))
+      let z = sum_over-zero (has_hit m) views (each_map (Fits count (Some m)) (λ v. has_hit m v ≡ 0) views (λ v f. hit_within count m (Some m) v.hit v h refl f) k.fits) in
+      let o : 1 ≤ sum_over (has_hit m) views = k.least_hit in absurd (omega arith))
       (lt_or m count)
 
-  least_once : (m : ℕ) → Kept count next (Some m) views → total (has_hit m) views ≡ 1
+  least_once : (m : ℕ) → Kept count next (Some m) views → sum_over (has_hit m) views ≡ 1
   least_once m k =
-      let a = total_below (has_hit m) (λ v. times m v.claims) views (each_map (Fits count (Some m)) (λ v. has_hit m v ≤ times m v.claims) views (λ v f. hit_claimed count m (Some m) v.hit v refl f) k.fits) in
-      let b : total (λ v. times m v.claims) views ≡ once_below m next = k.claimed (λ y. one_if (y == m)) ∙ sum_below-times m next in
-      let o : 1 ≤ total (has_hit m) views = k.least_hit in
+      let a = sum_over-below (has_hit m) (λ v. times m v.claims) views (each_map (Fits count (Some m)) (λ v. has_hit m v ≤ times m v.claims) views (λ v f. hit_claimed count m (Some m) v.hit v refl f) k.fits) in
+      let b : sum_over (λ v. times m v.claims) views ≡ once_below m next = k.claimed (λ y. one_if (y == m)) ∙ sum_below-times m next in
+      let o : 1 ≤ sum_over (has_hit m) views = k.least_hit in
       let c : once_below m next ≤ 1 = at_most m next in omega arith
     where
       at_most : (p n : ℕ) → once_below p n ≤ 1
       at_most p n = grind (arith, nat_tests)
 
-  none_decided : 0 < length views → Kept count next None views → Each (λ v. has_ended count v ≡ true) views → (x : ℕ) → total (λ v. times x v.refuted) views ≡ once_below x count
+  none_decided : 0 < length views → Kept count next None views → Each (λ v. has_ended count v ≡ true) views → (x : ℕ) → sum_over (λ v. times x v.refuted) views ≡ once_below x count
   none_decided some_one k e x =
       ⊎_elim
       (λ (h : x < count). refuted_once count next x None views some_one h tt k e ∙ sym (is_one x count h))

@@ -9,11 +9,11 @@ use Rattle.std.proofs.lemmas.Bool.Decides.{nat_tests}
 use Rattle.ct_core.specs.declared.event.Event.{Event}
 use Rattle.ct_core.specs.declared.event.Event.TheVariants.{Claim, Look, Refuse, Hit, Stop}
 use Rattle.ct_core.specs.Machine.{Sight}
-use Rattle.ct_core.specs.Counting.{total, one_if, sum_below}
+use Rattle.ct_core.specs.Counting.{sum_over, one_if, sum_below}
 use Rattle.ct_core.specs.Steps.{some_and, none_or, may_end, may_stop, is_legal, view_after, next_after, least_after, least_with}
 use Rattle.ct_core.specs.CompleteList.{has_hit}
 use Rattle.ct_core.specs.Kept.{list_of, Reaches, Fits, Kept}
-use Rattle.ct_core.proofs.Totals.{total-append, total_set, each_at, each_set, each_map, each_append}
+use Rattle.ct_core.proofs.Totals.{sum_over-append, sum_over-set, each_at, each_set, each_map, each_append}
 
 -- what a test of an option tells
 pub some_and_is : (o : Option ℕ) (p : ℕ → Bool) → some_and o p ≡ true → (x : ℕ) × (o ≡ Some x) × (p x ≡ true)
@@ -57,20 +57,20 @@ ends_is v i e =
 
 -- one view changes
 pub changes : (count next next' : ℕ) (least least' : Option ℕ) (views : List Sight) (w : ℕ) (v u : Sight) → slice_get views w ≡ Some v → Kept count next least views
-    → ((h : ℕ → ℕ) → total h u.claims + sum_below h next ≡ total h v.claims + sum_below h next')
+    → ((h : ℕ → ℕ) → sum_over h u.claims + sum_below h next ≡ sum_over h v.claims + sum_below h next')
     → ((x : Sight) → Fits count least x → Fits count least' x) → Fits count least' u
-    → IfSome least' (λ m. 1 ≤ total (has_hit m) (set views w u))
+    → IfSome least' (λ m. 1 ≤ sum_over (has_hit m) (set views w u))
     → Kept count next' least' (set views w u)
 changes count next next' least least' views w v u at k claims others mine hits = record {
-  claimed = λ h. omega (arith, total_set (λ x. total h x.claims) views w v u at, k.claimed h, claims h);
+  claimed = λ h. omega (arith, sum_over-set (λ x. sum_over h x.claims) views w v u at, k.claimed h, claims h);
   fits = each_set (Fits count least') views w u mine (each_map (Fits count least) (Fits count least') views others k.fits);
   least_hit = hits;
 }
 
 -- the hits stay as they are
-same_hits : (least : Option ℕ) (views : List Sight) (w : ℕ) (v u : Sight) → slice_get views w ≡ Some v → v.hit ≡ u.hit → IfSome least (λ m. 1 ≤ total (has_hit m) views) → IfSome least (λ m. 1 ≤ total (has_hit m) (set views w u))
+same_hits : (least : Option ℕ) (views : List Sight) (w : ℕ) (v u : Sight) → slice_get views w ≡ Some v → v.hit ≡ u.hit → IfSome least (λ m. 1 ≤ sum_over (has_hit m) views) → IfSome least (λ m. 1 ≤ sum_over (has_hit m) (set views w u))
 same_hits least views w v u at e h =
-    if_some _ _ least (λ m k. let s = total_set (has_hit m) views w v u at in let t : has_hit m v ≡ has_hit m u = ap (λ o. one_if (some_and o (λ x. x == m))) e in omega arith) h
+    if_some _ _ least (λ m k. let s = sum_over-set (has_hit m) views w v u at in let t : has_hit m v ≡ has_hit m u = ap (λ o. one_if (some_and o (λ x. x == m))) e in omega arith) h
 
 no_hit : (Q : ℕ → Type 0) (count : ℕ) (least : Option ℕ) (v : Sight) → v.stopped ≡ false → (o : Option ℕ) → IfSome o (λ h. (v.pending ≡ Some h) × (h < count) × Reaches least h × (v.stopped ≡ true)) → IfSome o Q
 no_hit Q count least v on None h = tt
@@ -161,25 +161,25 @@ lower_fits count i least v f = record {
   stopped_is = f.stopped_is;
 }
 
-claims_more : (h : ℕ → ℕ) (xs : List ℕ) (next : ℕ) → total h (xs ++ next ∷ []) + sum_below h next ≡ total h xs + sum_below h (next + 1)
-claims_more h xs next = rw add-one (omega (arith, total-append h xs (next ∷ [])))
+claims_more : (h : ℕ → ℕ) (xs : List ℕ) (next : ℕ) → sum_over h (xs ++ next ∷ []) + sum_below h next ≡ sum_over h xs + sum_below h (next + 1)
+claims_more h xs next = rw add-one (omega (arith, sum_over-append h xs (next ∷ [])))
 
 -- a hit is counted once more
 hit_counts : (least : Option ℕ) (i : ℕ) (views : List Sight) (w : ℕ) (v u : Sight) → slice_get views w ≡ Some v → v.hit ≡ None → u.hit ≡ Some i
-    → IfSome least (λ m. 1 ≤ total (has_hit m) views) → IfSome (least_with least i) (λ m. 1 ≤ total (has_hit m) (set views w u))
+    → IfSome least (λ m. 1 ≤ sum_over (has_hit m) views) → IfSome (least_with least i) (λ m. 1 ≤ sum_over (has_hit m) (set views w u))
 hit_counts None i views w v u at none is h =
-    let s = total_set (has_hit i) views w v u at in
+    let s = sum_over-set (has_hit i) views w v u at in
     let a : has_hit i v ≡ 0 = ap (λ o. one_if (some_and o (λ x. x == i))) none in
     let b : has_hit i u ≡ one_if (i == i) = ap (λ o. one_if (some_and o (λ x. x == i))) is in
     let c : one_if (i == i) ≡ 1 = grind (arith, nat_tests) in omega arith
 hit_counts (Some m) i views w v u at none is h =
     let n : ℕ = min m i in
-    let s = total_set (has_hit n) views w v u at in
+    let s = sum_over-set (has_hit n) views w v u at in
     let a : has_hit n v ≡ 0 = ap (λ o. one_if (some_and o (λ x. x == n))) none in
     let b : has_hit n u ≡ one_if (i == n) = ap (λ o. one_if (some_and o (λ x. x == n))) is in
     ⊎_elim
     (λ (e : n ≡ i). let c : one_if (i == n) ≡ 1 = grind (arith, nat_tests) in omega arith)
-    (λ (e : n ≡ m). let k : 1 ≤ total (has_hit n) views = subst (λ z. 1 ≤ total (has_hit z) views) (sym e) h in omega arith)
+    (λ (e : n ≡ m). let k : 1 ≤ sum_over (has_hit n) views = subst (λ z. 1 ≤ sum_over (has_hit z) views) (sym e) h in omega arith)
     (which m i)
   where
     which : (m i : ℕ) → (min m i ≡ i) ⊎ (min m i ≡ m)

@@ -10,9 +10,9 @@ use Rattle.ct_core.specs.declared.event.Event.TheVariants.{Claim, Look, Refuse, 
 use Rattle.ct_core.specs.Machine.{Sight, Machine, fresh, start_of}
 use Rattle.ct_core.specs.Steps.{some_and, is_legal, view_after, machine_after, step_at, step_of, worker_of}
 use Rattle.ct_core.specs.Runs.{run_of}
-use Rattle.ct_core.specs.Counting.{total, times, one_if, once_below, Each}
+use Rattle.ct_core.specs.Counting.{sum_over, times, one_if, once_below, Each}
 use Rattle.ct_core.specs.CompleteList.{has_hit, DecidedBy, IsComplete, Agrees, IsFaithful, IsFirstHit}
-use Rattle.ct_core.proofs.Totals.{each_append, each_at, each_set, each_map, total_zero}
+use Rattle.ct_core.proofs.Totals.{each_append, each_at, each_set, each_map, sum_over-zero}
 use Rattle.ct_core.proofs.RunsKeep.{next_run, run_decides, run_counts}
 
 -- what the worker refuted are misses, and what it hit is a hit
@@ -59,13 +59,13 @@ hit_none_of f m None a k = refl
 hit_none_of f m (Some h) a k = ⊎_elim (λ (t : ((h == m) ≡ true) × (h ≡ m)). let e : f h ≡ f m = ap f t.1 in absurd (cc)) (λ (t : ((h == m) ≡ false) × (h ≢ m)). ap one_if t.0) (eqb_tells h m)
 
 module _ (f : ℕ → Bool) (views : List Sight) (k : Each (Known f) views) where
-  miss_if : (x : ℕ) (b : Bool) → f x ≡ b → total (λ v. times x v.refuted) views ≡ 1 → f x ≡ false
-  miss_if x true e one = let z = total_zero (λ v. times x v.refuted) views (each_map (Known f) (λ v. times x v.refuted ≡ 0) views (λ v h. miss_none f x v.refuted e h.0) k) in absurd (omega arith)
+  miss_if : (x : ℕ) (b : Bool) → f x ≡ b → sum_over (λ v. times x v.refuted) views ≡ 1 → f x ≡ false
+  miss_if x true e one = let z = sum_over-zero (λ v. times x v.refuted) views (each_map (Known f) (λ v. times x v.refuted ≡ 0) views (λ v h. miss_none f x v.refuted e h.0) k) in absurd (omega arith)
   miss_if x false e one = e
 
-  hit_if : (m : ℕ) (b : Bool) → f m ≡ b → total (has_hit m) views ≡ 1 → f m ≡ true
+  hit_if : (m : ℕ) (b : Bool) → f m ≡ b → sum_over (has_hit m) views ≡ 1 → f m ≡ true
   hit_if m true e one = e
-  hit_if m false e one = let z = total_zero (has_hit m) views (each_map (Known f) (λ v. has_hit m v ≡ 0) views (λ v h. hit_none_of f m v.hit e h.1) k) in absurd (omega arith)
+  hit_if m false e one = let z = sum_over-zero (has_hit m) views (each_map (Known f) (λ v. has_hit m v ≡ 0) views (λ v h. hit_none_of f m v.hit e h.1) k) in absurd (omega arith)
 
   below_is : (x n : ℕ) → x < n → once_below x n ≡ 1
   below_is x n h = grind (arith, nat_tests)

@@ -11,7 +11,7 @@ use Rattle.ct_core.specs.declared.event.Event.TheVariants.{Claim, Look, Refuse, 
 use Rattle.ct_core.specs.Machine.{Sight, Machine, fresh, start_of}
 use Rattle.ct_core.specs.Steps.{is_legal, view_after, machine_after, step_at, step_of, worker_of, next_after, least_after}
 use Rattle.ct_core.specs.Runs.{run_of}
-use Rattle.ct_core.specs.Counting.{total, Each}
+use Rattle.ct_core.specs.Counting.{sum_over, Each}
 use Rattle.ct_core.specs.CompleteList.{has_ended, IsComplete, Decided}
 use Rattle.ct_core.specs.Kept.{Kept, Fits}
 use Rattle.ct_core.proofs.EventsKeep.{keeps}
@@ -77,7 +77,7 @@ step_keeps s t e is k = at_view (slice_get s.views (worker_of e)) refl is
 pub start_keeps : (count workers : ℕ) → KeptBy (start_of count workers)
 start_keeps count workers = record { claimed = λ h. none h workers; fits = all workers; least_hit = tt }
   where
-    none : (h : ℕ → ℕ) (n : ℕ) → total (λ v. total h v.claims) (replicate n fresh) ≡ 0
+    none : (h : ℕ → ℕ) (n : ℕ) → sum_over (λ v. sum_over h v.claims) (replicate n fresh) ≡ 0
     none h zero = refl
     none h (suc n) = omega (arith, none h n)
 

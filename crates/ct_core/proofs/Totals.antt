@@ -1,19 +1,19 @@
 -- Totals over lists, and what each element meets, under the changes that a run makes.
--- Main lemmas: `total_set` and `each_set`, one element changes; `sum_below-times`, each number below n stands once.
+-- Main lemmas: `sum_over-set` and `each_set`, one element changes; `sum_below-times`, each number below n stands once.
 use Rattle.std.proofs.Common.{◌≡◌, ℕ, zero, suc, ◌+◌, ◌<◌, ◌≤◌, List, [], ◌∷◌, ◌++◌, set, Some, refl, ap, subst, arith}
 use Rattle.std.specs.Prelude.{slice_get, ◌==◌}
 use Rattle.std.proofs.lemmas.Bool.Decides.{nat_tests}
-use Rattle.ct_core.specs.Counting.{total, one_if, times, once_below, sum_below, Each}
+use Rattle.ct_core.specs.Counting.{sum_over, one_if, times, once_below, sum_below, Each}
 
 module _ {X : Type 0} where
-  pub total-append : (f : X → ℕ) (xs ys : List X) → total f (xs ++ ys) ≡ total f xs + total f ys
-  total-append f [] ys = omega arith
-  total-append f (x ∷ xs) ys = omega (arith, total-append f xs ys)
+  pub sum_over-append : (f : X → ℕ) (xs ys : List X) → sum_over f (xs ++ ys) ≡ sum_over f xs + sum_over f ys
+  sum_over-append f [] ys = omega arith
+  sum_over-append f (x ∷ xs) ys = omega (arith, sum_over-append f xs ys)
 
-  pub total_set : (f : X → ℕ) (xs : List X) (w : ℕ) (v u : X) → slice_get xs w ≡ Some v → total f (set xs w u) + f v ≡ total f xs + f u
-  total_set f [] w v u e = absurd (cc)
-  total_set f (x ∷ xs) zero v u e = let same : x ≡ v = cc in let s = ap f same in omega arith
-  total_set f (x ∷ xs) (suc w) v u e = omega (arith, total_set f xs w v u e)
+  pub sum_over-set : (f : X → ℕ) (xs : List X) (w : ℕ) (v u : X) → slice_get xs w ≡ Some v → sum_over f (set xs w u) + f v ≡ sum_over f xs + f u
+  sum_over-set f [] w v u e = absurd (cc)
+  sum_over-set f (x ∷ xs) zero v u e = let same : x ≡ v = cc in let s = ap f same in omega arith
+  sum_over-set f (x ∷ xs) (suc w) v u e = omega (arith, sum_over-set f xs w v u e)
 
   pub each_at : (P : X → Type 0) (xs : List X) (w : ℕ) (v : X) → slice_get xs w ≡ Some v → Each P xs → P v
   each_at P [] w v e a = absurd (cc)
@@ -41,17 +41,17 @@ module _ {X : Type 0} where
   each_there P [] ys a = a
   each_there P (x ∷ xs) ys a = each_there P xs ys a.1
 
-  pub total_same : (f g : X → ℕ) (xs : List X) → Each (λ x. f x ≡ g x) xs → total f xs ≡ total g xs
-  total_same f g [] a = refl
-  total_same f g (x ∷ xs) a = let h = a.0 in omega (arith, total_same f g xs a.1)
+  pub sum_over-same : (f g : X → ℕ) (xs : List X) → Each (λ x. f x ≡ g x) xs → sum_over f xs ≡ sum_over g xs
+  sum_over-same f g [] a = refl
+  sum_over-same f g (x ∷ xs) a = let h = a.0 in omega (arith, sum_over-same f g xs a.1)
 
-  pub total_below : (f g : X → ℕ) (xs : List X) → Each (λ x. f x ≤ g x) xs → total f xs ≤ total g xs
-  total_below f g [] a = omega arith
-  total_below f g (x ∷ xs) a = let h = a.0 in omega (arith, total_below f g xs a.1)
+  pub sum_over-below : (f g : X → ℕ) (xs : List X) → Each (λ x. f x ≤ g x) xs → sum_over f xs ≤ sum_over g xs
+  sum_over-below f g [] a = omega arith
+  sum_over-below f g (x ∷ xs) a = let h = a.0 in omega (arith, sum_over-below f g xs a.1)
 
-pub total_zero : {X : Type 0} (f : X → ℕ) (xs : List X) → Each (λ x. f x ≡ 0) xs → total f xs ≡ 0
-total_zero f [] a = refl
-total_zero f (x ∷ xs) a = let h = a.0 in omega (arith, total_zero f xs a.1)
+pub sum_over-zero : {X : Type 0} (f : X → ℕ) (xs : List X) → Each (λ x. f x ≡ 0) xs → sum_over f xs ≡ 0
+sum_over-zero f [] a = refl
+sum_over-zero f (x ∷ xs) a = let h = a.0 in omega (arith, sum_over-zero f xs a.1)
 
 pub sum_below-times : (x n : ℕ) → sum_below (λ y. one_if (y == x)) n ≡ once_below x n
 sum_below-times x zero = grind (arith, nat_tests)

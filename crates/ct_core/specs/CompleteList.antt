@@ -12,7 +12,7 @@ use Rattle.ct_core.specs.declared.event.Event.TheVariants.{Claim, Look, Refuse, 
 use Rattle.ct_core.specs.Machine.{Sight, Machine, start_of}
 use Rattle.ct_core.specs.Steps.{some_and}
 use Rattle.ct_core.specs.Runs.{run_of}
-use Rattle.ct_core.specs.Counting.{total, one_if, times, once_below, Each}
+use Rattle.ct_core.specs.Counting.{sum_over, one_if, times, once_below, Each}
 
 -- 1 where the worker hit m
 abbrev pub has_hit : ℕ → Sight → ℕ
@@ -25,8 +25,8 @@ has_ended count v = is_some v.hit || (some_and v.pending (λ p. nat_le count p) 
 -- Without a hit the numbers below the count are refuted, each once, and no others.
 -- With a least hit, it is one worker's, and each smaller number is refuted once.
 abbrev pub DecidedBy : ℕ → List Sight → Option ℕ → Type 0
-DecidedBy count views None = (x : ℕ) → total (λ v. times x v.refuted) views ≡ once_below x count
-DecidedBy count views (Some m) = (m < count) × (total (has_hit m) views ≡ 1) × ((x : ℕ) → x < m → total (λ v. times x v.refuted) views ≡ 1)
+DecidedBy count views None = (x : ℕ) → sum_over (λ v. times x v.refuted) views ≡ once_below x count
+DecidedBy count views (Some m) = (m < count) × (sum_over (has_hit m) views ≡ 1) × ((x : ℕ) → x < m → sum_over (λ v. times x v.refuted) views ≡ 1)
 
 -- every worker is stopped
 abbrev pub IsComplete : Machine → Type 0

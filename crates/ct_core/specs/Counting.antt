@@ -1,5 +1,5 @@
 -- Counting in lists.
---     total f xs         the weights of the elements, added up
+--     sum_over f xs      the weights of the elements, added up
 --     times x xs         how often a number stands in a list
 --     once_below x n     1 where x is below n, else 0
 --     sum_below f n      the weights of the numbers below n, added up
@@ -7,9 +7,9 @@
 use Rattle.std.specs.Prelude.{ℕ, zero, suc, ◌+◌, List, [], ◌∷◌, Bool, cond, ◌==◌, nat_lt}
 
 -- the weights of the elements, added up
-abbrev pub total : {X : Type 0} → (X → ℕ) → List X → ℕ
-total f [] = 0
-total f (x ∷ xs) = f x + total f xs
+abbrev pub sum_over : {X : Type 0} → (X → ℕ) → List X → ℕ
+sum_over f [] = 0
+sum_over f (x ∷ xs) = f x + sum_over f xs
 
 -- 1 where it is so
 abbrev pub one_if : Bool → ℕ
@@ -17,7 +17,7 @@ one_if b = cond b 1 0
 
 -- how often x stands in the list
 abbrev pub times : ℕ → List ℕ → ℕ
-times x xs = total (λ y. one_if (y == x)) xs
+times x xs = sum_over (λ y. one_if (y == x)) xs
 
 -- 1 where x is below n
 abbrev pub once_below : ℕ → ℕ → ℕ

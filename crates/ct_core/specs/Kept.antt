@@ -2,12 +2,12 @@
 --     Fits count least view         what is true of each worker
 --     Kept count next least views   what is true of all of them
 -- That each number below `next` stands once in the claims of one view, and no other number stands there, is
--- said of every weight h at once: `total h claims`, over all views, is `sum_below h next`.
+-- said of every weight h at once: `sum_over h claims`, over all views, is `sum_below h next`.
 -- `ct_pool` keeps the same over the views of all its seats.
 use Rattle.std.specs.Prelude.{◌≡◌, ℕ, ◌<◌, ◌≤◌, List, [], ◌∷◌, ◌++◌, true, ◌||◌, Option, Some, None, is_some, IfSome}
 use Rattle.ct_core.specs.Machine.{Sight}
 use Rattle.ct_core.specs.Steps.{may_stop}
-use Rattle.ct_core.specs.Counting.{total, sum_below, Each}
+use Rattle.ct_core.specs.Counting.{sum_over, sum_below, Each}
 use Rattle.ct_core.specs.CompleteList.{has_hit}
 
 -- the number, if there is one
@@ -31,6 +31,6 @@ pub record Fits (count : ℕ) (least : Option ℕ) (v : Sight) : Type 0 where
 
 -- what is true of all of them
 pub record Kept (count next : ℕ) (least : Option ℕ) (views : List Sight) : Type 0 where
-  pub claimed : (h : ℕ → ℕ) → total (λ v. total h v.claims) views ≡ sum_below h next
+  pub claimed : (h : ℕ → ℕ) → sum_over (λ v. sum_over h v.claims) views ≡ sum_below h next
   pub fits : Each (Fits count least) views
-  pub least_hit : IfSome least (λ m. 1 ≤ total (has_hit m) views)
+  pub least_hit : IfSome least (λ m. 1 ≤ sum_over (has_hit m) views)

@@ -16,7 +16,7 @@ use Rattle.ct_expr.specs.declared.expr.Expr.TheVariants as e
 use Rattle.ct_expr.specs.declared.expr.Expr.TheFolds.{fold-roll-Expr, fold_out-Summand}
 use Rattle.ct_expr.specs.declared.expr.Summand.{Summand, out-Summand}
 use Rattle.ct_expr.specs.ValueArithmetic.{Value, over_one}
-use Rattle.ct_expr.specs.Value.{joined, multiplied, sum_from, product_from, fraction_of, value_step, sum_of, product_of, power_from, one_value, operator_of_polynomial, ratio, signed, fractions, is_evaluable, evaluable_step, is_evaluable_term, is_coefficient, is_divisor, is_ratio, fraction_of_term, all_evaluable, all_evaluable_terms}
+use Rattle.ct_expr.specs.Value.{joined, multiplied, sum_from, product_from, fraction_of, value_step, sum_of_values, product_of_values, power_from, one_value, operator_of_polynomial, ratio, signed, fractions, is_evaluable, evaluable_step, is_evaluable_term, is_coefficient, is_divisor, is_ratio, fraction_of_term, all_evaluable, all_evaluable_terms}
 
 module _ (a : Name → Action) where
   pub fraction_of-Whole : (n : ℤ) → fraction_of a (e.Whole n) ≡ Ok (over_one (operator_of_polynomial (number n)))
@@ -35,11 +35,11 @@ module _ (a : Name → Action) where
   unfolding fraction_of value_step
   fraction_of-Symbol i = ap (fraction_of a) (sym (e.rolls-Symbol i)) ∙ fold-roll-Expr _ _ _ _ _
 
-  pub fraction_of-Sum : (terms : List Summand) → fraction_of a (e.Sum terms) ≡ sum_of a (signed a terms)
+  pub fraction_of-Sum : (terms : List Summand) → fraction_of a (e.Sum terms) ≡ sum_of_values a (signed a terms)
   unfolding fraction_of fraction_of_term value_step
   fraction_of-Sum terms = ap (fraction_of a) (sym (e.rolls-Sum terms)) ∙ fold-roll-Expr _ _ _ _ _
 
-  pub fraction_of-Product : (factors : List Expr) → fraction_of a (e.Product factors) ≡ product_of a (fractions a factors)
+  pub fraction_of-Product : (factors : List Expr) → fraction_of a (e.Product factors) ≡ product_of_values a (fractions a factors)
   unfolding fraction_of value_step
   fraction_of-Product factors = ap (fraction_of a) (sym (e.rolls-Product factors)) ∙ fold-roll-Expr _ _ _ _ _
 

@@ -58,8 +58,8 @@ module _ (a : Name → Action) where
     more ← joined so_far t.0 x
     sum_from (Some more) ts
 
-  abbrev pub sum_of : List Signed → Checked Value
-  sum_of ts = sum_from None ts
+  abbrev pub sum_of_values : List Signed → Checked Value
+  sum_of_values ts = sum_from None ts
 
   -- one more factor, after the product of those before it
   abbrev pub multiplied : Option Value → Value → Checked Value
@@ -73,8 +73,8 @@ module _ (a : Name → Action) where
     more ← multiplied so_far x
     product_from (Some more) fs
 
-  abbrev pub product_of : List (Checked Value) → Checked Value
-  product_of fs = product_from None fs
+  abbrev pub product_of_values : List (Checked Value) → Checked Value
+  product_of_values fs = product_from None fs
 
   -- n more factors of a power
   unfoldable pub power_from : Value → ℕ → Value → Checked Value
@@ -88,8 +88,8 @@ module _ (a : Name → Action) where
   value_step (Expr-F.Ratio n d) = Ok (ratio n d)
   value_step (Expr-F.Name i) = Ok (over_one (operator_of_polynomial (name (name_with i))))
   value_step (Expr-F.Symbol i) = Ok (over_one (term_of (symbol (name_with i)) polys.one))
-  value_step (Expr-F.Sum terms) = sum_of terms
-  value_step (Expr-F.Product factors) = product_of factors
+  value_step (Expr-F.Sum terms) = sum_of_values terms
+  value_step (Expr-F.Product factors) = product_of_values factors
   value_step (Expr-F.Power base n) = do
     x ← base
     power_from one_value n x

@@ -50,7 +50,7 @@ fn fraction(alloc: Global, algebra: &Algebra, expr: &Expr) -> Result<Value, Faul
 #[cycle(evaluation)]
 fn sum(alloc: Global, algebra: &Algebra, terms: &[Summand]) -> Result<Value, Fault>
     requires { IsTrue (spec.all_evaluable_terms terms.now) }
-    ensures { Answers (spec.sum_of (actions_of algebra.now) (spec.signed (actions_of algebra.now) terms.now)) result }
+    ensures { Answers (spec.sum_of_values (actions_of algebra.now) (spec.signed (actions_of algebra.now) terms.now)) result }
 {
     let mut so_far = None;
     for term in terms {
@@ -68,7 +68,7 @@ fn sum(alloc: Global, algebra: &Algebra, terms: &[Summand]) -> Result<Value, Fau
 #[cycle(evaluation)]
 fn product(alloc: Global, algebra: &Algebra, factors: &[Expr]) -> Result<Value, Fault>
     requires { IsTrue (spec.all_evaluable factors.now) }
-    ensures { Answers (spec.product_of (actions_of algebra.now) (spec.fractions (actions_of algebra.now) factors.now)) result }
+    ensures { Answers (spec.product_of_values (actions_of algebra.now) (spec.fractions (actions_of algebra.now) factors.now)) result }
 {
     let mut so_far = None;
     for factor in factors {

@@ -11,7 +11,7 @@ use Rattle.ct_poly.specs.Measures.{checked_times}
 use Rattle.ct_poly.specs.Order.{poly_cmp, poly_tied}
 use Rattle.ct_frac.specs.declared.factor.Factor.{Factor}
 use Rattle.ct_frac.specs.Arithmetic.{exponent_in, EachIsIn, DividesFactors, checked_often, checked_spread, checked_cleared}
-use Rattle.ct_frac.specs.Written.{Denominator, Written, IsBelow, AreFactors, IsDenominator, power, product_of, multiplied_out}
+use Rattle.ct_frac.specs.Written.{Denominator, Written, IsBelow, AreFactors, IsDenominator, power, product_of_factors, multiplied_out}
 use Rattle.ct_frac.proofs.Denominators.{number-product}
 use Rattle.ct_frac.proofs.Exponents.{exponent_below, exponent_low, tied}
 use Rattle.ct_frac.proofs.JoinedFactors.{same_ok}
@@ -52,7 +52,7 @@ abbrev Covers : List Factor → List Factor → Type 0
 Covers fs [] = Unit {0}
 Covers fs (g ∷ gs) = (exponent_in g.poly fs ≤ g.exp) × Covers fs gs
 
-whole_is : (fs gs : List Factor) → Covers fs gs → product_of gs ≡ times (shared fs gs) (missing fs gs)
+whole_is : (fs gs : List Factor) → Covers fs gs → product_of_factors gs ≡ times (shared fs gs) (missing fs gs)
 whole_is fs [] covers = sym (times_one polys.one)
 whole_is fs (g ∷ gs) covers =
     let x = exponent_in g.poly fs in
@@ -132,13 +132,13 @@ shared_more f fs (g ∷ gs) some there none are = by (poly_cmp f.poly g.poly) re
         ap₂ (λ e w. times (power g.poly e) w) (ap (λ u. picked u f.exp (exponent_in g.poly fs)) told) (shared_below f fs gs (subst (λ p. IsBelow p gs) (sym same) are.1.0))
         ∙ ap₂ (λ p w. times (power p f.exp) w) (sym same) (sym (one_times (shared fs gs)) ∙ ap (λ e. times (power g.poly e) (shared fs gs)) (sym (ap (λ p. exponent_in p fs) (sym same) ∙ none)))
 
-shared_is : (fs gs : List Factor) → AreFactors fs → AreFactors gs → EachIsIn fs gs → shared fs gs ≡ product_of fs
+shared_is : (fs gs : List Factor) → AreFactors fs → AreFactors gs → EachIsIn fs gs → shared fs gs ≡ product_of_factors fs
 shared_is [] gs are its each = shared_none gs
 shared_is (f ∷ fs) gs are its each =
     shared_more f fs gs are.0.some each.0 (exponent_below f.poly fs are.1.0) its
     ∙ ap (times (power f.poly f.exp)) (shared_is fs gs are.1.1 its each.1)
 
-factors_whole : (fs gs : List Factor) → AreFactors fs → AreFactors gs → EachIsIn fs gs → product_of gs ≡ times (product_of fs) (missing fs gs)
+factors_whole : (fs gs : List Factor) → AreFactors fs → AreFactors gs → EachIsIn fs gs → product_of_factors gs ≡ times (product_of_factors fs) (missing fs gs)
 factors_whole fs gs are its each =
     whole_is fs gs (covered fs gs gs each (own_exponents gs its)) ∙ ap (λ w. times w (missing fs gs)) (shared_is fs gs are its each)
 
@@ -155,8 +155,8 @@ cleared_ok w d n is its divides answer =
     let second = spread_ok w.den.factors d.factors both.value n both.rest in
     let whole : number (pos d.whole) ≡ times (number (pos q)) (number (pos w.den.whole)) =
     ap (λ k. number (pos k)) (sym (div-mul_cancel w.den.whole divides.whole)) ∙ number-product q w.den.whole in
-    ap (λ m. times m (times (number (pos w.den.whole)) (product_of w.den.factors))) (sym second ∙ ap (λ m. times m (missing w.den.factors d.factors)) (sym first))
-    ∙ sorted w.numerator (number (pos q)) (missing w.den.factors d.factors) (number (pos w.den.whole)) (product_of w.den.factors)
+    ap (λ m. times m (times (number (pos w.den.whole)) (product_of_factors w.den.factors))) (sym second ∙ ap (λ m. times m (missing w.den.factors d.factors)) (sym first))
+    ∙ sorted w.numerator (number (pos q)) (missing w.den.factors d.factors) (number (pos w.den.whole)) (product_of_factors w.den.factors)
     ∙ ap₂ (λ a b. times w.numerator (times a b)) (sym whole) (sym (factors_whole w.den.factors d.factors is.factors its.factors divides.factors))
   where
     sorted : (n q m w p : Polynomial) → times (times (times n q) m) (times w p) ≡ times n (times (times q w) (times p m))

@@ -10,7 +10,7 @@ use Rattle.ct_algebra.proofs.PolynomialLawProofs.{finite_maps, degrees}
 use Rattle.ct_mono.specs.Limits.{largest_degree}
 use Rattle.ct_frac.specs.declared.factor.Factor.{Factor}
 use Rattle.ct_frac.specs.Normal.{with_exponent}
-use Rattle.ct_frac.specs.Written.{Denominator, IsBase, IsFactor, IsBelow, AreFactors, IsDenominator, product_of, multiplied_out}
+use Rattle.ct_frac.specs.Written.{Denominator, IsBase, IsFactor, IsBelow, AreFactors, IsDenominator, product_of_factors, multiplied_out}
 use Rattle.ct_frac.proofs.Products.{one_nonzero, power_nonzero}
 use Rattle.ct_frac.proofs.Quotients.{times_nonzero}
 
@@ -61,7 +61,7 @@ base_nonzero p base zero_p =
     let none : degree p ≡ 0 = ap degree zero_p ∙ degrees.of_zero in
     let some = base.not_constant in omega arith
 
-pub factors_nonzero : (fs : List Factor) → AreFactors fs → product_of fs ≢ polys.zero
+pub factors_nonzero : (fs : List Factor) → AreFactors fs → product_of_factors fs ≢ polys.zero
 factors_nonzero [] are = one_nonzero
 factors_nonzero (f ∷ fs) are =
     times_nonzero _ _ (power_nonzero f.poly f.exp (base_nonzero f.poly are.0.base)) (factors_nonzero fs are.1.1)

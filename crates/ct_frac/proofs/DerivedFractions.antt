@@ -21,7 +21,7 @@ use Rattle.ct_frac.specs.declared.factor.Factor.{Factor}
 use Rattle.ct_frac.specs.Arithmetic.{checked_exponent}
 use Rattle.ct_frac.specs.Normal.{normal}
 use Rattle.ct_frac.specs.Symbols.{has_name, with_name, checked_once, checked_part, checked_without_parts, checked_raised, checked_delta}
-use Rattle.ct_frac.specs.Written.{Denominator, Written, IsBelow, AreFactors, IsDenominator, IsWritten, power, product_of, multiplied_out, value, value_over}
+use Rattle.ct_frac.specs.Written.{Denominator, Written, IsBelow, AreFactors, IsDenominator, IsWritten, power, product_of_factors, multiplied_out, value, value_over}
 use Rattle.ct_frac.proofs.Clearing.{times_ok}
 use Rattle.ct_frac.proofs.Denominators.{den_nonzero}
 use Rattle.ct_frac.proofs.JoinedFactors.{same_ok}
@@ -115,7 +115,7 @@ module _ (i : Name) where
   pub record Raised (fs gs : List Factor) : Type 0 where
     pub factors : AreFactors gs
     pub below : (p : Polynomial) → IsBelow p fs → IsBelow p gs
-    pub product : product_of gs ≡ times (product_of fs) (once (with_name i fs))
+    pub product : product_of_factors gs ≡ times (product_of_factors fs) (once (with_name i fs))
 
   raised_power : (f : Factor) (b : Bool) (e : ℕ) (p o : Polynomial) (fs : List Factor) → f.exp + cond b 1 0 ≡ e → o ≡ once fs
       → times (power f.poly e) (times p o) ≡ times (times (power f.poly f.exp) p) (once (cond b (f ∷ fs) fs))
@@ -145,7 +145,7 @@ module _ (i : Name) where
         );
         below = λ p below. (below.0, more.below p below.1);
         product = ap (times (power f.poly exponent.value)) more.product
-            ∙ raised_power f (has_name i f.poly) exponent.value (product_of fs) (once (with_name i fs)) (with_name i fs) kept.same refl;
+            ∙ raised_power f (has_name i f.poly) exponent.value (product_of_factors fs) (once (with_name i fs)) (with_name i fs) kept.same refl;
       })
 
   pub raised_den : (d : Denominator) (gs : List Factor) → IsDenominator d → checked_raised i d.factors ≡ Ok gs → IsDenominator (record { whole = d.whole; factors = gs })
@@ -167,7 +167,7 @@ module _ (i : Name) where
   unfolding multiplied_out times plus
   den_slope d =
       let w = number (pos d.whole) in
-      let p = product_of d.factors in
+      let p = product_of_factors d.factors in
       let o = once (with_name i d.factors) in
       ap (λ v. times v o) (derived-times i w p ∙ ap (λ v. plus (times w (derived i p)) (times v p)) (derived-number i (pos d.whole)))
       ∙ ring4 polys w p (derived i p) o (λ a b c e. (search reify depth 20, search reify depth 20)) refl

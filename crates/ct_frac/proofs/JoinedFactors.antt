@@ -8,7 +8,7 @@ use Rattle.ct_mono.specs.Checked.{Checked, ◌>>=◌, both_fit}
 use Rattle.ct_poly.specs.Order.{poly_cmp, poly_tied}
 use Rattle.ct_frac.specs.declared.factor.Factor.{Factor}
 use Rattle.ct_frac.specs.Arithmetic.{joined_greatest, all_greatest, checked_exponent, checked_joined, checked_joined_all}
-use Rattle.ct_frac.specs.Written.{IsFactor, IsBelow, AreFactors, power, product_of}
+use Rattle.ct_frac.specs.Written.{IsFactor, IsBelow, AreFactors, power, product_of_factors}
 use Rattle.ct_frac.proofs.Limits.{exponent_ok}
 use Rattle.ct_frac.proofs.Products.{times_one, times_comm, times_left_comm, power-sum}
 use Rattle.ct_frac.proofs.Sorting.{turned, IsBelow-trans}
@@ -20,7 +20,7 @@ same_ok a b same = cc
 
 pub record Joined (f : Factor) (fs hs : List Factor) : Type 0 where
   pub factors : AreFactors hs
-  pub product : product_of hs ≡ times (power f.poly f.exp) (product_of fs)
+  pub product : product_of_factors hs ≡ times (power f.poly f.exp) (product_of_factors fs)
   pub below : (p : Polynomial) → poly_cmp p f.poly ≡ Less → IsBelow p fs → IsBelow p hs
 
 pub joined_ok : (f : Factor) (fs hs : List Factor) → checked_joined f fs ≡ Ok hs → IsFactor f → AreFactors fs → Joined f fs hs
@@ -46,8 +46,8 @@ joined_ok f (g ∷ gs) hs answer is are = by (poly_cmp g.poly f.poly) refl answe
         let tied : g.poly ≡ f.poly = poly_tied g.poly f.poly order in
         subst (Joined f (g ∷ gs)) (same_ok (record { poly = g.poly; exp = both.value } ∷ gs) hs both.rest) (record {
           factors = (record { base = are.0.base; some = let some = are.0.some in let same = kept.same in omega arith; few = kept.low }, (are.1.0, are.1.1));
-          product = ap (λ e. times (power g.poly e) (product_of gs)) (sym kept.same)
-              ∙ ap (λ w. times w (product_of gs)) (power-sum g.poly g.exp f.exp ∙ times_comm _ _ ∙ ap (λ p. times (power p f.exp) (power g.poly g.exp)) tied)
+          product = ap (λ e. times (power g.poly e) (product_of_factors gs)) (sym kept.same)
+              ∙ ap (λ w. times w (product_of_factors gs)) (power-sum g.poly g.exp f.exp ∙ times_comm _ _ ∙ ap (λ p. times (power p f.exp) (power g.poly g.exp)) tied)
               ∙ times_assoc _ _ _;
           below = λ p less below. below;
         })
@@ -61,18 +61,18 @@ joined_ok f (g ∷ gs) hs answer is are = by (poly_cmp g.poly f.poly) refl answe
 
 pub record JoinedAll (done fs hs : List Factor) : Type 0 where
   pub factors : AreFactors hs
-  pub product : product_of hs ≡ times (product_of done) (product_of fs)
+  pub product : product_of_factors hs ≡ times (product_of_factors done) (product_of_factors fs)
 
 pub joined_all_ok : (done fs hs : List Factor) → checked_joined_all done fs ≡ Ok hs → AreFactors done → AreFactors fs → JoinedAll done fs hs
 joined_all_ok done [] hs answer are its =
-    subst (JoinedAll done []) (same_ok done hs answer) (record { factors = are; product = sym (times_one (product_of done)) })
+    subst (JoinedAll done []) (same_ok done hs answer) (record { factors = are; product = sym (times_one (product_of_factors done)) })
 joined_all_ok done (f ∷ fs) hs answer are its =
     let both = both_fit (checked_joined f done) (λ joined. checked_joined_all joined fs) hs answer in
     let h = joined_ok f done both.value both.first its.0 are in
     let more = joined_all_ok both.value fs hs both.rest h.factors its.1.1 in
     record {
       factors = more.factors;
-      product = more.product ∙ ap (λ w. times w (product_of fs)) (h.product ∙ times_comm _ _) ∙ times_assoc _ _ _;
+      product = more.product ∙ ap (λ w. times w (product_of_factors fs)) (h.product ∙ times_comm _ _) ∙ times_assoc _ _ _;
     }
 
 -- ---- the greater exponent

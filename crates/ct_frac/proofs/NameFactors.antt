@@ -1,5 +1,5 @@
 -- The names of a monomial as factors: they are different, and their product is the monomial.
--- Main lemmas `names_different` and `product_of-names`, which the quotient cites. A name is one term, so all that is asked
+-- Main lemmas `names_different` and `product_of_factors-names`, which the quotient cites. A name is one term, so all that is asked
 -- of a factor is read off it.
 use Rattle.std.specs.Prelude.{◌≡◌, ◌≢◌, ◌⊎◌, refl, ℕ, zero, suc, ◌+◌, ◌<◌, ◌≤◌, ℤ, pos, false, true, Bool, cond, eqb, ltb, List, [], ◌∷◌}
 use Rattle.std.proofs.Common.{sym, ◌∙◌, ap, ap₂, subst, arith, eqb-true, eq-eqb, inl, inr}
@@ -14,8 +14,8 @@ use Rattle.ct_poly.specs.Content.{IsContentOf, common_monomial, is_negative, lea
 use Rattle.ct_poly.proofs.Contents.{content_only}
 use Rattle.ct_poly.proofs.TermLists.{place-name_with}
 use Rattle.ct_frac.specs.Normal.{with_exponent, names_from}
-use Rattle.ct_frac.specs.Written.{IsBase, power, product_of}
-use Rattle.ct_frac.proofs.Products.{product_of-with_exponent}
+use Rattle.ct_frac.specs.Written.{IsBase, power, product_of_factors}
+use Rattle.ct_frac.proofs.Products.{product_of_factors-with_exponent}
 use Rattle.ct_frac.proofs.Sorting.{DiffersFrom, AreDifferent}
 
 abbrev number_if : Bool → ℕ → ℕ → ℕ
@@ -154,18 +154,18 @@ power-named i (suc e) small =
         by true = omega arith
         by false = omega arith
 
-pub product_of-names_from :
-    (left i : ℕ) (m : Mono) → left + i ≡ 6 → product_of (names_from left i m) ≡ term (from_name i m) (pos 1)
+pub product_of_factors-names_from :
+    (left i : ℕ) (m : Mono) → left + i ≡ 6 → product_of_factors (names_from left i m) ≡ term (from_name i m) (pos 1)
 unfolding times
-product_of-names_from zero i m all =
+product_of_factors-names_from zero i m all =
     one_is ∙ number_is (pos 1)
     ∙ ap (λ n. term n (pos 1)) (same_mono unit (from_name i m) (λ k low. exp-unit k low ∙ sym (exp-mono (λ k. cond (ltb k i) 0 (exp m k)) k low ∙ past k low)))
   where
     past : (k : ℕ) → k < 6 → cond (ltb k i) 0 (exp m k) ≡ 0
     past k low = ap (λ b. cond b 0 (exp m k)) (lt-ltb k i (omega arith))
-product_of-names_from (suc left) i m all =
-    product_of-with_exponent (named i) (exp m i) (names_from left (i + 1) m)
-    ∙ ap₂ polys.◌*◌ (power-named i (exp m i) (omega arith)) (product_of-names_from left (i + 1) m (omega arith))
+product_of_factors-names_from (suc left) i m all =
+    product_of_factors-with_exponent (named i) (exp m i) (names_from left (i + 1) m)
+    ∙ ap₂ polys.◌*◌ (power-named i (exp m i) (omega arith)) (product_of_factors-names_from left (i + 1) m (omega arith))
     ∙ term-* (only i (exp m i)) (from_name (i + 1) m) (pos 1) (pos 1)
     ∙ ap (λ n. term n (pos 1)) (same_mono (only i (exp m i) · from_name (i + 1) m) (from_name i m) exps)
   where
@@ -190,7 +190,7 @@ product_of-names_from (suc left) i m all =
         by (inr (inr more)) =
             told false false false (ne_eqb k i (λ same. omega arith)) (le-ltb k (i + 1) (omega arith)) (le-ltb k i (omega arith)) (omega arith)
 
-pub product_of-names : (m : Mono) → product_of (names_from 6 0 m) ≡ term m (pos 1)
-product_of-names m =
-    product_of-names_from 6 0 m refl
+pub product_of_factors-names : (m : Mono) → product_of_factors (names_from 6 0 m) ≡ term m (pos 1)
+product_of_factors-names m =
+    product_of_factors-names_from 6 0 m refl
     ∙ ap (λ n. term n (pos 1)) (same_mono (from_name 0 m) m (λ k low. exp-mono (λ k. cond (ltb k 0) 0 (exp m k)) k low ∙ ap (λ b. cond b 0 (exp m k)) (le-ltb k 0 (omega arith))))

@@ -20,10 +20,10 @@ use Rattle.ct_frac.specs.declared.factor.Factor.{Factor}
 use Rattle.ct_int.specs.Divisors.{greatest_common}
 use Rattle.ct_frac.specs.FractionLaws.{IsDividedOut, FactorsAreDividedOut}
 use Rattle.ct_frac.specs.Normal.{on_quotient, divided_out, with_exponent, Lowered, lowered, cancelled, in_lowest_terms, normal}
-use Rattle.ct_frac.specs.Written.{Denominator, Written, AreFactors, IsDenominator, IsWritten, power, product_of, multiplied_out, value, value_over, one_den, whole_polynomial}
+use Rattle.ct_frac.specs.Written.{Denominator, Written, AreFactors, IsDenominator, IsWritten, power, product_of_factors, multiplied_out, value, value_over, one_den, whole_polynomial}
 use Rattle.ct_int.proofs.CommonDivisors.{greatest_common_is, greatest_common_only}
 use Rattle.ct_frac.proofs.Denominators.{factors-kept, number-product, den_nonzero}
-use Rattle.ct_frac.proofs.Products.{times_comm, times_one, one_times, times_left_comm, power-sum, product_of-append, product_of-with_exponent}
+use Rattle.ct_frac.proofs.Products.{times_comm, times_one, one_times, times_left_comm, power-sum, product_of_factors-append, product_of_factors-with_exponent}
 use Rattle.ct_frac.proofs.Quotients.{same_over}
 use Rattle.ct_frac.proofs.WholeParts.{part_whole, content_of_part}
 
@@ -60,20 +60,20 @@ regroup t l d r s = simp (times_assoc, times_left_comm)
 -- the cross products of n over all factors, and of what is left
 lowered-value :
     (n : Polynomial) (done fs : List Factor) →
-    times n (product_of (lowered n done fs).factors) ≡ times (lowered n done fs).numerator (times (product_of done) (product_of fs))
-lowered-value n done [] = ap (times n) (sym (times_one (product_of done)))
+    times n (product_of_factors (lowered n done fs).factors) ≡ times (lowered n done fs).numerator (times (product_of_factors done) (product_of_factors fs))
+lowered-value n done [] = ap (times n) (sym (times_one (product_of_factors done)))
 lowered-value n done (f ∷ fs) =
     let left = divided_out f.poly n f.exp in
     let is = divided_out_is f.poly n f.exp in
     let kept = done ++ with_exponent f.poly left.exponent [] in
     let r = lowered left.numerator kept fs in
-    let kept_is : product_of kept ≡ times (product_of done) (power f.poly left.exponent) =
-    product_of-append done _ ∙ ap (times (product_of done)) (product_of-with_exponent f.poly left.exponent [] ∙ times_one _) in
-    ap (λ m. times m (product_of r.factors)) (is.numerator_is ∙ times_comm _ _) ∙ times_assoc _ _ _
+    let kept_is : product_of_factors kept ≡ times (product_of_factors done) (power f.poly left.exponent) =
+    product_of_factors-append done _ ∙ ap (times (product_of_factors done)) (product_of_factors-with_exponent f.poly left.exponent [] ∙ times_one _) in
+    ap (λ m. times m (product_of_factors r.factors)) (is.numerator_is ∙ times_comm _ _) ∙ times_assoc _ _ _
     ∙ ap (times (power f.poly is.lost)) (lowered-value left.numerator kept fs)
-    ∙ ap (λ x. times (power f.poly is.lost) (times r.numerator (times x (product_of fs)))) kept_is
-    ∙ regroup (power f.poly is.lost) r.numerator (product_of done) (power f.poly left.exponent) (product_of fs)
-    ∙ ap (λ x. times r.numerator (times (product_of done) (times x (product_of fs)))) (sym (ap (power f.poly) (sym is.exponent_is) ∙ power-sum f.poly is.lost left.exponent))
+    ∙ ap (λ x. times (power f.poly is.lost) (times r.numerator (times x (product_of_factors fs)))) kept_is
+    ∙ regroup (power f.poly is.lost) r.numerator (product_of_factors done) (power f.poly left.exponent) (product_of_factors fs)
+    ∙ ap (λ x. times r.numerator (times (product_of_factors done) (times x (product_of_factors fs)))) (sym (ap (power f.poly) (sym is.exponent_is) ∙ power-sum f.poly is.lost left.exponent))
 
 -- ---- the whole number
 
@@ -122,7 +122,7 @@ module _ (n : Polynomial) (d : Denominator) (is : IsDenominator d) where
   number_is : number (pos d.whole) ≡ times (number (pos r.den.whole)) (number (pos g))
   number_is = ap (λ k. number (pos k)) (sym whole_is) ∙ number-product (d.whole / g) g
 
-  lowered_is : times n (product_of r.den.factors) ≡ times l.numerator (product_of d.factors)
+  lowered_is : times n (product_of_factors r.den.factors) ≡ times l.numerator (product_of_factors d.factors)
   lowered_is = lowered-value n [] d.factors ∙ ap (times l.numerator) (one_times _)
 
   cross_in : (m w h p : Polynomial) → times m (times (times w h) p) ≡ times w (times (times h m) p)
@@ -131,9 +131,9 @@ module _ (n : Polynomial) (d : Denominator) (is : IsDenominator d) where
   cross : times r.numerator (multiplied_out d) ≡ times n (multiplied_out r.den)
   unfolding multiplied_out
   cross =
-      ap (λ w. times r.numerator (times w (product_of d.factors))) number_is
-      ∙ cross_in r.numerator (number (pos r.den.whole)) (number (pos g)) (product_of d.factors)
-      ∙ ap (λ w. times (number (pos r.den.whole)) (times w (product_of d.factors))) numerator_is
+      ap (λ w. times r.numerator (times w (product_of_factors d.factors))) number_is
+      ∙ cross_in r.numerator (number (pos r.den.whole)) (number (pos g)) (product_of_factors d.factors)
+      ∙ ap (λ w. times (number (pos r.den.whole)) (times w (product_of_factors d.factors))) numerator_is
       ∙ ap (times (number (pos r.den.whole))) (sym lowered_is)
       ∙ times_left_comm _ _ _
 

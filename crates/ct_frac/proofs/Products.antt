@@ -1,5 +1,5 @@
 -- The products of lists of factors: what appending, putting in and joining make of them, and that they are not zero.
--- Main lemmas: `product_of-append`, `product_of-inserted`, `product_of-sorted_onto` and `product_nonzero`, which the laws on
+-- Main lemmas: `product_of_factors-append`, `product_of_factors-inserted`, `product_of_factors-sorted_onto` and `product_nonzero`, which the laws on
 -- values cite.
 use Rattle.std.specs.Prelude.{◌≡◌, ◌≢◌, refl, ℕ, zero, suc, ◌+◌, List, [], ◌∷◌, ◌++◌}
 use Rattle.std.proofs.Common.{Ordering, Less, Equal, Greater, sym, ◌∙◌, ap, arith}
@@ -8,7 +8,7 @@ use Rattle.ct_algebra.specs.Polynomial.{Polynomial, polys, polys_domain, times, 
 use Rattle.ct_poly.specs.Order.{poly_cmp}
 use Rattle.ct_frac.specs.declared.factor.Factor.{Factor}
 use Rattle.ct_frac.specs.Normal.{inserted, sorted_onto, with_exponent}
-use Rattle.ct_frac.specs.Written.{power, product_of}
+use Rattle.ct_frac.specs.Written.{power, product_of_factors}
 use Rattle.ct_frac.proofs.Quotients.{times_nonzero}
 
 pub times_comm : (p q : Polynomial) → times p q ≡ times q p
@@ -31,29 +31,29 @@ power-sum p (suc m) n =
     let more : suc m + n ≡ suc (m + n) = omega arith in
     ap (power p) more ∙ ap (times p) (power-sum p m n) ∙ sym (times_assoc p (power p m) (power p n))
 
-pub product_of-append : (fs gs : List Factor) → product_of (fs ++ gs) ≡ times (product_of fs) (product_of gs)
-product_of-append [] gs = sym (one_times (product_of gs))
-product_of-append (f ∷ fs) gs = ap (times (power f.poly f.exp)) (product_of-append fs gs) ∙ sym (times_assoc _ _ _)
+pub product_of_factors-append : (fs gs : List Factor) → product_of_factors (fs ++ gs) ≡ times (product_of_factors fs) (product_of_factors gs)
+product_of_factors-append [] gs = sym (one_times (product_of_factors gs))
+product_of_factors-append (f ∷ fs) gs = ap (times (power f.poly f.exp)) (product_of_factors-append fs gs) ∙ sym (times_assoc _ _ _)
 
-pub product_of-with_exponent : (p : Polynomial) (e : ℕ) (fs : List Factor) → product_of (with_exponent p e fs) ≡ times (power p e) (product_of fs)
-product_of-with_exponent p zero fs = sym (one_times (product_of fs))
-product_of-with_exponent p (suc e) fs = refl
+pub product_of_factors-with_exponent : (p : Polynomial) (e : ℕ) (fs : List Factor) → product_of_factors (with_exponent p e fs) ≡ times (power p e) (product_of_factors fs)
+product_of_factors-with_exponent p zero fs = sym (one_times (product_of_factors fs))
+product_of_factors-with_exponent p (suc e) fs = refl
 
-pub product_of-inserted : (f : Factor) (fs : List Factor) → product_of (inserted f fs) ≡ times (power f.poly f.exp) (product_of fs)
-product_of-inserted f [] = refl
-product_of-inserted f (g ∷ gs) = by (poly_cmp g.poly f.poly) (product_of-inserted f gs)
+pub product_of_factors-inserted : (f : Factor) (fs : List Factor) → product_of_factors (inserted f fs) ≡ times (power f.poly f.exp) (product_of_factors fs)
+product_of_factors-inserted f [] = refl
+product_of_factors-inserted f (g ∷ gs) = by (poly_cmp g.poly f.poly) (product_of_factors-inserted f gs)
   where
-    by : (o : Ordering) → product_of (inserted f gs) ≡ times (power f.poly f.exp) (product_of gs)
-        → product_of (by_order o (g ∷ inserted f gs) (f ∷ g ∷ gs) (f ∷ g ∷ gs)) ≡ times (power f.poly f.exp) (product_of (g ∷ gs))
+    by : (o : Ordering) → product_of_factors (inserted f gs) ≡ times (power f.poly f.exp) (product_of_factors gs)
+        → product_of_factors (by_order o (g ∷ inserted f gs) (f ∷ g ∷ gs) (f ∷ g ∷ gs)) ≡ times (power f.poly f.exp) (product_of_factors (g ∷ gs))
     by Less ih = ap (times (power g.poly g.exp)) ih ∙ times_left_comm _ _ _
     by Equal ih = refl
     by Greater ih = refl
 
-pub product_of-sorted_onto : (done fs : List Factor) → product_of (sorted_onto done fs) ≡ times (product_of done) (product_of fs)
-product_of-sorted_onto done [] = sym (times_one (product_of done))
-product_of-sorted_onto done (f ∷ fs) =
-    product_of-sorted_onto (inserted f done) fs
-    ∙ ap (λ w. times w (product_of fs)) (product_of-inserted f done ∙ times_comm _ _)
+pub product_of_factors-sorted_onto : (done fs : List Factor) → product_of_factors (sorted_onto done fs) ≡ times (product_of_factors done) (product_of_factors fs)
+product_of_factors-sorted_onto done [] = sym (times_one (product_of_factors done))
+product_of_factors-sorted_onto done (f ∷ fs) =
+    product_of_factors-sorted_onto (inserted f done) fs
+    ∙ ap (λ w. times w (product_of_factors fs)) (product_of_factors-inserted f done ∙ times_comm _ _)
     ∙ times_assoc _ _ _
 
 -- ---- they are not zero

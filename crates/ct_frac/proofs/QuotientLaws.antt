@@ -26,11 +26,11 @@ use Rattle.ct_poly.proofs.Contents.{content_is}
 use Rattle.ct_poly.proofs.PrimitiveParts.{part_whole, part_primitive}
 use Rattle.ct_frac.specs.declared.factor.Factor.{Factor}
 use Rattle.ct_frac.specs.Normal.{normal, names_from, sorted_onto, unless_constant, factors_of, with_sign_of, quotient_of}
-use Rattle.ct_frac.specs.Written.{Denominator, AreFactors, IsFactor, IsDenominator, product_of, multiplied_out, value, value_over}
+use Rattle.ct_frac.specs.Written.{Denominator, AreFactors, IsFactor, IsDenominator, product_of_factors, multiplied_out, value, value_over}
 use Rattle.ct_frac.proofs.Denominators.{den_nonzero}
-use Rattle.ct_frac.proofs.NameFactors.{IsBounded, names_different, differs_from_names, name_divides, product_of-names, total_some}
+use Rattle.ct_frac.proofs.NameFactors.{IsBounded, names_different, differs_from_names, name_divides, product_of_factors-names, total_some}
 use Rattle.ct_frac.proofs.NormalLaws.{normal-value}
-use Rattle.ct_frac.proofs.Products.{times_comm, times_one, product_of-append, product_of-sorted_onto, one_times}
+use Rattle.ct_frac.proofs.Products.{times_comm, times_one, product_of_factors-append, product_of_factors-sorted_onto, one_times}
 use Rattle.ct_frac.proofs.Quotients.{same_over}
 use Rattle.ct_poly.proofs.Contents.{content_small}
 use Rattle.ct_frac.proofs.Sorting.{DiffersFrom, AreDifferent, AreApart, sorted_factors, apart_from_none, AreDifferent-append}
@@ -127,13 +127,13 @@ module _ (d : Polynomial) (some : d ≢ polys.zero) where
           (AreDifferent-append names (factor ∷ []) (names_different 6 0 m six bounded) (is_factor, (tt, tt)) (apart_from_one names factor differs))
           (apart_from_none (names ++ factor ∷ []))
 
-  product_of-factors : product_of (factors_of d) ≡ times (term m (pos 1)) p
+  product_of_factors-factors : product_of_factors (factors_of d) ≡ times (term m (pos 1)) p
   unfolding factors_of
-  product_of-factors =
-      product_of-sorted_onto [] (names ++ unless_constant p) ∙ one_times _
-      ∙ product_of-append names (unless_constant p) ∙ ap₂ times (product_of-names m) (by (eqb (degree p) 0) refl)
+  product_of_factors-factors =
+      product_of_factors-sorted_onto [] (names ++ unless_constant p) ∙ one_times _
+      ∙ product_of_factors-append names (unless_constant p) ∙ ap₂ times (product_of_factors-names m) (by (eqb (degree p) 0) refl)
     where
-      by : (b : Bool) → eqb (degree p) 0 ≡ b → product_of (cond b [] (record { poly = p; exp = 1 } ∷ [])) ≡ p
+      by : (b : Bool) → eqb (degree p) 0 ≡ b → product_of_factors (cond b [] (record { poly = p; exp = 1 } ∷ [])) ≡ p
       by false told = times_one _ ∙ times_one p
       by true told =
           let is = part_primitive d some in
@@ -158,7 +158,7 @@ module _ (d : Polynomial) (some : d ≢ polys.zero) where
   divisor_is : multiplied_out divisor ≡ times (term m (pos (content d))) p
   unfolding multiplied_out times
   divisor_is =
-      ap (times (number (pos (content d)))) product_of-factors
+      ap (times (number (pos (content d)))) product_of_factors-factors
       ∙ sym (times_assoc (number (pos (content d))) (term m (pos 1)) p)
       ∙ ap (λ w. times w p) (number-* (pos (content d)) m (pos 1) ∙ ap (term m) (substitution.times_one (pos (content d))))
 

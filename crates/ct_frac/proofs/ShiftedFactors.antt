@@ -23,11 +23,11 @@ use Rattle.ct_poly.proofs.ShiftValues.{shifted-zero}
 use Rattle.ct_frac.specs.declared.factor.Factor.{Factor}
 use Rattle.ct_frac.specs.Normal.{inserted, sorted_onto}
 use Rattle.ct_frac.specs.Symbols.{checked_shifted_factors, checked_sigma}
-use Rattle.ct_frac.specs.Written.{Written, IsBase, IsBelow, AreFactors, IsOne, IsWritten, power, product_of, multiplied_out, value}
+use Rattle.ct_frac.specs.Written.{Written, IsBase, IsBelow, AreFactors, IsOne, IsWritten, power, product_of_factors, multiplied_out, value}
 use Rattle.ct_frac.proofs.Denominators.{den_nonzero}
 use Rattle.ct_frac.proofs.Exponents.{tied}
 use Rattle.ct_frac.proofs.JoinedFactors.{same_ok}
-use Rattle.ct_frac.proofs.Products.{one_times, product_of-sorted_onto}
+use Rattle.ct_frac.proofs.Products.{one_times, product_of_factors-sorted_onto}
 use Rattle.ct_frac.proofs.Quotients.{ratio, value_over-ratio}
 use Rattle.ct_frac.proofs.ShiftedTerms.{shift_leads, shift_injective, content-shift}
 use Rattle.ct_frac.proofs.Sorting.{DiffersFrom, AreDifferent, sorted_factors, apart_from_none}
@@ -114,10 +114,10 @@ module _ (i : Name) where
   moved_different (f ∷ fs) are =
       (record { base = base_moved f.poly are.0.base; some = are.0.some; few = are.0.few }, (moved_differs f.poly fs are.1.0, moved_different fs are.1.1))
 
-  product_of-moved : (fs : List Factor) → product_of (all_moved fs) ≡ moved (product_of fs)
-  product_of-moved [] = sym moved-one
-  product_of-moved (f ∷ fs) =
-      ap₂ times (sym (moved-power f.poly f.exp)) (product_of-moved fs) ∙ sym (moved-times (power f.poly f.exp) (product_of fs))
+  product_of_factors-moved : (fs : List Factor) → product_of_factors (all_moved fs) ≡ moved (product_of_factors fs)
+  product_of_factors-moved [] = sym moved-one
+  product_of_factors-moved (f ∷ fs) =
+      ap₂ times (sym (moved-power f.poly f.exp)) (product_of_factors-moved fs) ∙ sym (moved-times (power f.poly f.exp) (product_of_factors fs))
 
   -- ---- the checked steps
 
@@ -137,9 +137,9 @@ module _ (i : Name) where
   factors_shifted fs gs are fits =
       subst AreFactors (shifted_factors_ok [] fs gs fits) (sorted_factors [] (all_moved fs) tt (moved_different fs are) (apart_from_none (all_moved fs)))
 
-  product_shifted : (fs gs : List Factor) → checked_shifted_factors i [] fs ≡ Ok gs → product_of gs ≡ moved (product_of fs)
+  product_shifted : (fs gs : List Factor) → checked_shifted_factors i [] fs ≡ Ok gs → product_of_factors gs ≡ moved (product_of_factors fs)
   product_shifted fs gs fits =
-      ap product_of (sym (shifted_factors_ok [] fs gs fits)) ∙ product_of-sorted_onto [] (all_moved fs) ∙ one_times _ ∙ product_of-moved fs
+      ap product_of_factors (sym (shifted_factors_ok [] fs gs fits)) ∙ product_of_factors-sorted_onto [] (all_moved fs) ∙ one_times _ ∙ product_of_factors-moved fs
 
   -- ---- fractions
 
@@ -169,7 +169,7 @@ module _ (i : Name) where
     };
     numerator = sym made;
     denominator = ap₂ times (sym (moved-number w.den.whole)) (product_shifted w.den.factors gs fits)
-        ∙ sym (moved-times (number (pos w.den.whole)) (product_of w.den.factors));
+        ∙ sym (moved-times (number (pos w.den.whole)) (product_of_factors w.den.factors));
   }
 
   -- as the code brings it about

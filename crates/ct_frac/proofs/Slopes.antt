@@ -19,7 +19,7 @@ use Rattle.ct_algebra.specs.Terms.{EachTerm}
 use Rattle.ct_algebra.proofs.FreeOfLaws.{derived-free}
 use Rattle.ct_frac.specs.declared.factor.Factor.{Factor}
 use Rattle.ct_frac.specs.Symbols.{has_name, with_name}
-use Rattle.ct_frac.specs.Written.{power, product_of}
+use Rattle.ct_frac.specs.Written.{power, product_of_factors}
 use Rattle.ct_frac.proofs.Products.{one_times}
 
 -- the product of the polynomials of factors, each taken once
@@ -94,7 +94,7 @@ module _ (i : Name) where
   -- ---- products
 
   pub product_slope :
-      (fs : List Factor) → times (derived i (product_of fs)) (once (with_name i fs)) ≡ times (product_of fs) (slope (with_name i fs))
+      (fs : List Factor) → times (derived i (product_of_factors fs)) (once (with_name i fs)) ≡ times (product_of_factors fs) (slope (with_name i fs))
   unfolding times plus
   product_slope [] = ap (λ w. times w polys.one) derived_one ∙ zero_mul polys polys.one ∙ sym (mul_zero polys polys.one)
   product_slope (f ∷ fs) = by (has_name i f.poly) refl (product_slope fs)
@@ -103,7 +103,7 @@ module _ (i : Name) where
       w = power f.poly f.exp
 
       p : Polynomial
-      p = product_of fs
+      p = product_of_factors fs
 
       o : Polynomial
       o = once (with_name i fs)

@@ -16,9 +16,9 @@ use Rattle.ct_mono.specs.declared.fault.Fault.{Fault}
 use Rattle.ct_poly.specs.Measures.{checked_plus, checked_minus, checked_times, minus}
 use Rattle.ct_frac.specs.declared.factor.Factor.{Factor}
 use Rattle.ct_poly.specs.Wholes.{checked_whole}
-use Rattle.ct_frac.specs.Arithmetic.{DividesFactors, checked_joined_all, checked_common, checked_cleared, checked_sum, checked_difference, checked_full_product, checked_product, checked_same_value}
+use Rattle.ct_frac.specs.Arithmetic.{DividesFactors, checked_joined_all, checked_common, checked_cleared, checked_fraction_sum, checked_fraction_difference, checked_full_product, checked_fraction_product, checked_same_value}
 use Rattle.ct_frac.specs.Normal.{normal}
-use Rattle.ct_frac.specs.Written.{Denominator, Written, IsDenominator, IsWritten, product_of, multiplied_out, value, value_over, one_den, whole_polynomial}
+use Rattle.ct_frac.specs.Written.{Denominator, Written, IsDenominator, IsWritten, product_of_factors, multiplied_out, value, value_over, one_den, whole_polynomial}
 use Rattle.ct_frac.proofs.Clearing.{times_ok, cleared_ok}
 use Rattle.ct_frac.proofs.CommonDenominators.{common_divided}
 use Rattle.ct_frac.proofs.Denominators.{den_nonzero, number-product}
@@ -68,8 +68,8 @@ pub minus_ok : (p q r : Polynomial) → checked_minus p q ≡ Ok r → minus p q
 unfolding checked_minus
 minus_ok p q r fits = verdict_ok _ (minus p q) r fits
 
-pub sum-value : (x y r : Written) → IsWritten x → IsWritten y → checked_sum x y ≡ Ok r → value r ≡ field.◌+◌ (value x) (value y)
-unfolding checked_sum
+pub sum-value : (x y r : Written) → IsWritten x → IsWritten y → checked_fraction_sum x y ≡ Ok r → value r ≡ field.◌+◌ (value x) (value y)
+unfolding checked_fraction_sum
 sum-value x y r is it answer =
     let common = both_fit (checked_common one_den (x ∷ y ∷ [])) _ r answer in
     let mine = both_fit (checked_cleared x common.value) _ r common.rest in
@@ -91,9 +91,9 @@ unfolding times
 negated_times p q = neg_mul polys p q
 
 pub difference-value :
-    (x y r : Written) → IsWritten x → IsWritten y → checked_difference x y ≡ Ok r →
+    (x y r : Written) → IsWritten x → IsWritten y → checked_fraction_difference x y ≡ Ok r →
     value r ≡ field.◌+◌ (value x) (field.neg (value y))
-unfolding checked_difference
+unfolding checked_fraction_difference
 difference-value x y r is it answer =
     let common = both_fit (checked_common one_den (x ∷ y ∷ [])) _ r answer in
     let mine = both_fit (checked_cleared x common.value) _ r common.rest in
@@ -109,8 +109,8 @@ difference-value x y r is it answer =
     (den_nonzero x.den is.den) (den_nonzero y.den it.den) (den_nonzero common.value cleared.den) cleared.first turned
     ∙ (unfold value in ap (field.◌+◌ (value x)) (sym (over-negative y.numerator (multiplied_out y.den) (den_nonzero y.den it.den))))
 
-pub sum_written : (x y r : Written) → IsWritten x → IsWritten y → checked_difference x y ≡ Ok r → IsWritten r
-unfolding checked_difference
+pub sum_written : (x y r : Written) → IsWritten x → IsWritten y → checked_fraction_difference x y ≡ Ok r → IsWritten r
+unfolding checked_fraction_difference
 sum_written x y r is it answer =
     let common = both_fit (checked_common one_den (x ∷ y ∷ [])) _ r answer in
     let mine = both_fit (checked_cleared x common.value) _ r common.rest in
@@ -137,7 +137,7 @@ product_den d e whole fs is it wholes joined =
     record {
       den = record { positive = let some = is.positive in let same = kept.same in omega arith; within = kept.low; factors = all.factors };
       product = ap₂ times (ap (λ k. number (pos k)) (sym kept.same) ∙ number-product d.whole e.whole) all.product
-          ∙ sorted (number (pos d.whole)) (number (pos e.whole)) (product_of d.factors) (product_of e.factors);
+          ∙ sorted (number (pos d.whole)) (number (pos e.whole)) (product_of_factors d.factors) (product_of_factors e.factors);
     }
   where
     sorted : (a b c d : Polynomial) → times (times a b) (times c d) ≡ times (times a c) (times b d)
@@ -166,8 +166,8 @@ unfolding value
 value-zero w is none = ap (λ n. value_over n (multiplied_out w.den)) none ∙ over-zero (multiplied_out w.den) (den_nonzero w.den is.den)
 
 pub product-value :
-    (x y r : Written) → IsWritten x → IsWritten y → checked_product x y ≡ Ok r → value r ≡ field.◌*◌ (value x) (value y)
-unfolding checked_product
+    (x y r : Written) → IsWritten x → IsWritten y → checked_fraction_product x y ≡ Ok r → value r ≡ field.◌*◌ (value x) (value y)
+unfolding checked_fraction_product
 product-value x y r is it answer = by (polys.is_zero x.numerator) (polys.is_zero y.numerator) refl refl answer
   where
     zero_is : ◌≡◌ {A = Checked Written} (Ok (whole_polynomial polys.zero)) (Ok r) → value r ≡ field.zero
@@ -189,7 +189,7 @@ pub same_value_is :
     (x y : Written) (b : Bool) → IsWritten x → IsWritten y → checked_same_value x y ≡ Ok b → (b ≡ true) ↔ (value x ≡ value y)
 unfolding checked_same_value
 same_value_is x y b is it answer =
-    let both = both_fit (checked_difference x y) (λ w. Ok (polys.is_zero w.numerator)) b answer in
+    let both = both_fit (checked_fraction_difference x y) (λ w. Ok (polys.is_zero w.numerator)) b answer in
     let told : polys.is_zero both.value.numerator ≡ b = same_ok _ b both.rest in
     let difference = difference-value x y both.value is it both.first in
     let written = sum_written x y both.value is it both.first in (
@@ -230,7 +230,7 @@ is_zero_told p false told = by (polys.is_zero p) refl
 
 pub product-told :
     (x y : Written) (s t : Bool) → polys.is_zero x.numerator ≡ s → polys.is_zero y.numerator ≡ t →
-    cond (s || t) (Ok (whole_polynomial polys.zero)) (checked_full_product x y) ≡ checked_product x y
-unfolding checked_product
+    cond (s || t) (Ok (whole_polynomial polys.zero)) (checked_full_product x y) ≡ checked_fraction_product x y
+unfolding checked_fraction_product
 product-told x y s t told_x told_y =
     ap₂ (λ a b. cond (a || b) (Ok (whole_polynomial polys.zero)) (checked_full_product x y)) (sym told_x) (sym told_y)

@@ -5,7 +5,7 @@
 --     DividesFactors d e     d divides e factor by factor
 --     checked_cleared w d    the numerator of w over d: times the quotient of the whole numbers, then each factor of d as
 --                            often as the exponents differ, one factor at a time
---     checked_sum, checked_difference, checked_product, negative   of written fractions
+--     checked_fraction_sum, checked_fraction_difference, checked_fraction_product, negative   of written fractions
 --     checked_same_value     whether the difference is zero
 -- The first step that overflows decides the kind. Each has the value of the field operation: `SumLaws`.
 use Rattle.std.specs.Prelude.{ℕ, zero, suc, ◌+◌, ◌-◌, ◌*◌, ◌/◌, ◌≤◌, max, pos, Bool, ◌||◌, cond, ltb, Ok, None, List, [], ◌∷◌}
@@ -91,16 +91,16 @@ checked_cleared w d =
 
 -- ---- the operations
 
-unfoldable pub checked_sum : Written → Written → Checked Written
-checked_sum x y = do
+unfoldable pub checked_fraction_sum : Written → Written → Checked Written
+checked_fraction_sum x y = do
   d ← checked_common one_den (x ∷ y ∷ [])
   mine ← checked_cleared x d
   its ← checked_cleared y d
   n ← checked_plus mine its
   Ok (normal n d)
 
-unfoldable pub checked_difference : Written → Written → Checked Written
-checked_difference x y = do
+unfoldable pub checked_fraction_difference : Written → Written → Checked Written
+checked_fraction_difference x y = do
   d ← checked_common one_den (x ∷ y ∷ [])
   mine ← checked_cleared x d
   its ← checked_cleared y d
@@ -117,11 +117,11 @@ checked_full_product x y = do
 abbrev pub has_zero : Written → Written → Bool
 has_zero x y = polys.is_zero x.numerator || polys.is_zero y.numerator
 
-unfoldable pub checked_product : Written → Written → Checked Written
-checked_product x y = cond (has_zero x y) (Ok (whole_polynomial polys.zero)) (checked_full_product x y)
+unfoldable pub checked_fraction_product : Written → Written → Checked Written
+checked_fraction_product x y = cond (has_zero x y) (Ok (whole_polynomial polys.zero)) (checked_full_product x y)
 
 abbrev pub negative : Written → Written
 negative w = record { numerator = polys.neg w.numerator; den = w.den }
 
 unfoldable pub checked_same_value : Written → Written → Checked Bool
-checked_same_value x y = checked_difference x y >>= (λ w. Ok (polys.is_zero w.numerator))
+checked_same_value x y = checked_fraction_difference x y >>= (λ w. Ok (polys.is_zero w.numerator))

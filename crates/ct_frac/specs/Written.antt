@@ -85,12 +85,12 @@ abbrev pub power : Polynomial → ℕ → Polynomial
 power p zero = polys.one
 power p (suc n) = times p (power p n)
 
-abbrev pub product_of : List Factor → Polynomial
-product_of [] = polys.one
-product_of (f ∷ fs) = times (power f.poly f.exp) (product_of fs)
+abbrev pub product_of_factors : List Factor → Polynomial
+product_of_factors [] = polys.one
+product_of_factors (f ∷ fs) = times (power f.poly f.exp) (product_of_factors fs)
 
 unfoldable pub multiplied_out : Denominator → Polynomial
-multiplied_out d = times (number (pos d.whole)) (product_of d.factors)
+multiplied_out d = times (number (pos d.whole)) (product_of_factors d.factors)
 
 -- a polynomial over another, as a value
 unfoldable pub value_over : Polynomial → Polynomial → K

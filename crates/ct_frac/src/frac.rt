@@ -6,7 +6,7 @@ ghost use Rattle.ct_algebra.specs.Polynomial.{polys};
 ghost use Rattle.ct_mono.specs.Checked.{Answers};
 ghost use Rattle.ct_frac.specs.Written.{IsWritten, whole_polynomial, multiplied_out, value, value_over, one_den};
 ghost use Rattle.ct_frac.specs.Normal.{normal, quotient_of};
-ghost use Rattle.ct_frac.specs.Arithmetic.{negative, DividesFactors, checked_common, checked_cleared, checked_sum, checked_difference, checked_product, checked_same_value};
+ghost use Rattle.ct_frac.specs.Arithmetic.{negative, DividesFactors, checked_common, checked_cleared, checked_fraction_sum, checked_fraction_difference, checked_fraction_product, checked_same_value};
 
 use crate::clear::cleared;
 use crate::common::common_denominator;
@@ -112,7 +112,7 @@ impl Frac {
     }
 
     pub fn add(&self, alloc: Global, other: &Frac) -> Result<Frac, Fault>
-        ensures answers { Answers (checked_sum self.now other.now) result }
+        ensures answers { Answers (checked_fraction_sum self.now other.now) result }
         ensures value { IfOk result (λ r. value r ≡ field.◌+◌ (value self.now) (value other.now)) }
     {
         self.in_written_form();
@@ -121,7 +121,7 @@ impl Frac {
     }
 
     pub fn sub(&self, alloc: Global, other: &Frac) -> Result<Frac, Fault>
-        ensures answers { Answers (checked_difference self.now other.now) result }
+        ensures answers { Answers (checked_fraction_difference self.now other.now) result }
         ensures value { IfOk result (λ r. value r ≡ field.◌+◌ (value self.now) (field.neg (value other.now))) }
     {
         self.in_written_form();
@@ -130,7 +130,7 @@ impl Frac {
     }
 
     pub fn mul(&self, alloc: Global, other: &Frac) -> Result<Frac, Fault>
-        ensures answers { Answers (checked_product self.now other.now) result }
+        ensures answers { Answers (checked_fraction_product self.now other.now) result }
         ensures value { IfOk result (λ r. value r ≡ field.◌*◌ (value self.now) (value other.now)) }
     {
         self.in_written_form();

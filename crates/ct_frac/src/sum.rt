@@ -2,7 +2,7 @@
 ghost use Rattle.std.specs.Prelude.{◌≡◌, ◌+◌, [], ◌∷◌};
 ghost use Rattle.ct_algebra.specs.Polynomial.{polys};
 ghost use Rattle.ct_mono.specs.Checked.{Answers, AnswersBy};
-ghost use Rattle.ct_frac.specs.Arithmetic.{checked_sum, checked_difference, checked_exponent, checked_joined, checked_joined_all, checked_product, checked_full_product, checked_same_value, checked_common};
+ghost use Rattle.ct_frac.specs.Arithmetic.{checked_fraction_sum, checked_fraction_difference, checked_exponent, checked_joined, checked_joined_all, checked_fraction_product, checked_full_product, checked_same_value, checked_common};
 ghost use Rattle.ct_frac.specs.Written.{one_den};
 
 use crate::clear::cleared;
@@ -17,9 +17,9 @@ use ct_mono::LARGEST_DEGREE;
 use ct_poly::{Fault, Kind, whole_product};
 use std::alloc::Global;
 
-#[tactic(auto, unfolding(crate::specs::Arithmetic::checked_sum))]
+#[tactic(auto, unfolding(crate::specs::Arithmetic::checked_fraction_sum))]
 pub fn sum(alloc: Global, x: &Frac, y: &Frac) -> Result<Frac, Fault>
-    ensures { Answers (checked_sum x.now y.now) result }
+    ensures { Answers (checked_fraction_sum x.now y.now) result }
 {
     let den = common_of_both(alloc, x, y)?;
     let mine = cleared(alloc, x, &den)?;
@@ -29,9 +29,9 @@ pub fn sum(alloc: Global, x: &Frac, y: &Frac) -> Result<Frac, Fault>
     Ok(r)
 }
 
-#[tactic(auto, unfolding(crate::specs::Arithmetic::checked_difference))]
+#[tactic(auto, unfolding(crate::specs::Arithmetic::checked_fraction_difference))]
 pub fn difference(alloc: Global, x: &Frac, y: &Frac) -> Result<Frac, Fault>
-    ensures { Answers (checked_difference x.now y.now) result }
+    ensures { Answers (checked_fraction_difference x.now y.now) result }
 {
     let den = common_of_both(alloc, x, y)?;
     let mine = cleared(alloc, x, &den)?;
@@ -59,7 +59,7 @@ pub fn is_zero_difference(alloc: Global, x: &Frac, y: &Frac) -> Result<bool, Fau
 
 // The product, which is zero where one of them is.
 pub fn product(alloc: Global, x: &Frac, y: &Frac) -> Result<Frac, Fault>
-    ensures { Answers (checked_product x.now y.now) result }
+    ensures { Answers (checked_fraction_product x.now y.now) result }
 {
     if has_zero_numerator(x) {
         let zero = Frac::zero(alloc)?;

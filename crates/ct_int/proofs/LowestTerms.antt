@@ -10,7 +10,7 @@ use Rattle.std.proofs.Math.Nat.{pos_of_dvd_of_pos, le-mul_of_pos_right, mul-pos,
 use lib.IntN.{*ℤ_comm}
 use Rattle.ct_int.proofs.GcdLaws.{same_denominators, coprime_parts, coprime_factors, coprime_product}
 use Rattle.ct_int.proofs.Scaling.{scaled_comm, scaled_same, scaled_twice, scaled_product}
-use Rattle.ct_int.specs.Rational.{Ratio, ratio, SameValue, IsLowest, IsCancelled, IsLowestTerms, product_of}
+use Rattle.ct_int.specs.Rational.{Ratio, ratio, SameValue, IsLowest, IsCancelled, IsLowestTerms, product_of_ratios}
 use Rattle.ct_int.specs.Limits.{largest_whole, IsRational, LowestTermsPass}
 
 pub same_value-trans : (p q r : Ratio) → 0 < q.den → SameValue p q → SameValue q r → SameValue p r
@@ -84,7 +84,7 @@ pub lowest-product :
     IsLowest q →
     IsCancelled (ratio p.num (pos q.den)) s →
     IsCancelled (ratio q.num (pos p.den)) t →
-    IsLowestTerms (product_of p q) (ratio (s.num *ℤ t.num) (pos (t.den * s.den)))
+    IsLowestTerms (product_of_ratios p q) (ratio (s.num *ℤ t.num) (pos (t.den * s.den)))
 lowest-product p q s t first second left right =
     let a = unsigned_abs s.num in
     let c = unsigned_abs t.num in
@@ -112,9 +112,9 @@ lowest-product p q s t first second left right =
     }
 
 -- a product within the limit doesn't pass it
-pub product-fits : (p q r : Ratio) → 0 < p.den → 0 < q.den → IsLowestTerms (product_of p q) r → IsRational r → LowestTermsPass (product_of p q) → ⊥
+pub product-fits : (p q r : Ratio) → 0 < p.den → 0 < q.den → IsLowestTerms (product_of_ratios p q) r → IsRational r → LowestTermsPass (product_of_ratios p q) → ⊥
 product-fits p q r some any terms within passes =
-    let same : passes.terms ≡ r = lowest_terms-same (product_of p q) (product_of p q) passes.terms r (mul-pos some any) (mul-pos some any) refl passes.lowest terms in
+    let same : passes.terms ≡ r = lowest_terms-same (product_of_ratios p q) (product_of_ratios p q) passes.terms r (mul-pos some any) (mul-pos some any) refl passes.lowest terms in
     ⊎_elim
     (λ past. let far : largest_whole < unsigned_abs r.num = rw same at past in omega (arith, far, within.num_within))
     (λ past. let far : largest_whole < r.den = rw same at past in omega (arith, far, within.den_within)) passes.past

@@ -1,6 +1,6 @@
 -- What the calls of `Rat` compute is what they promise: sums over the least denominator, differences and quotients by an opposite
 -- and a reciprocal.
--- Main lemmas: `lowest-sum`, `sum_of-opposite` and `product_of-reciprocal`.
+-- Main lemmas: `lowest-sum`, `sum_of_ratios-opposite` and `product_of_ratios-reciprocal`.
 -- Both sides are brought to one product of natural numbers, and a reciprocal goes by the cases of the sign.
 use Rattle.std.specs.Prelude.{◌≡◌, ◌≢◌, ℕ, zero, suc, ◌+◌, ◌*◌, ◌/◌, ◌<◌, ◌≤◌, ℤ, pos, negsuc, ◌+ℤ◌, ◌*ℤ◌, ◌<ℤ◌, ◌≤ℤ◌, neg_ℤ, unsigned_abs, Ok, Err}
 use Rattle.std.specs.Int.{IsGcd, ◌∣◌}
@@ -11,7 +11,7 @@ use Rattle.std.proofs.lemmas.Nat.{le-div}
 use Rattle.std.proofs.Math.Nat.{div-mul_cancel, pos_of_dvd_of_pos, mul-pos, mul_comm}
 use Rattle.ct_int.proofs.Scaling.{scaled_twice, scaled_sum, scaled_negated, times_negated}
 use Rattle.ct_int.proofs.LowestTerms.{same_value-trans}
-use Rattle.ct_int.specs.Rational.{Ratio, ratio, IsLowest, IsLowestTerms, opposite_of, sum_of, difference_of, product_of, quotient_of}
+use Rattle.ct_int.specs.Rational.{Ratio, ratio, IsLowest, IsLowestTerms, opposite_of, sum_of_ratios, difference_of_ratios, product_of_ratios, quotient_of_ratios}
 use Rattle.ct_int.specs.Limits.{largest_whole, IsRational, SumPasses, RefusesWhere}
 use Rattle.ct_int.specs.declared.fault.IntFault.{IntFault}
 
@@ -46,12 +46,12 @@ pub lowest-sum :
     IsLowest q →
     IsGcd p.den q.den g →
     IsLowestTerms (ratio (p.num *ℤ pos (q.den / g) +ℤ q.num *ℤ pos (p.den / g)) (pos (p.den / g * q.den))) r →
-    IsLowestTerms (sum_of p q) r
+    IsLowestTerms (sum_of_ratios p q) r
 lowest-sum p q r g first second greatest terms =
     let added = ratio (p.num *ℤ pos (q.den / g) +ℤ q.num *ℤ pos (p.den / g)) (pos (p.den / g * q.den)) in
     record {
       lowest = terms.lowest;
-      same = same_value-trans r added (sum_of p q) (sum_den-positive p q g first second greatest) terms.same
+      same = same_value-trans r added (sum_of_ratios p q) (sum_den-positive p q g first second greatest) terms.same
           (same_sum p.num q.num p.den q.den (p.den / g) (q.den / g) g (div-mul_cancel g greatest.0) (div-mul_cancel g greatest.1));
     }
 
@@ -82,8 +82,8 @@ IsRational-opposite r h = record {
   den_within = h.den_within;
 }
 
-pub sum_of-opposite : (p q : Ratio) → sum_of p (opposite_of q) ≡ difference_of p q
-sum_of-opposite p q =
+pub sum_of_ratios-opposite : (p q : Ratio) → sum_of_ratios p (opposite_of q) ≡ difference_of_ratios p q
+sum_of_ratios-opposite p q =
     let made : ℤ → Ratio = λ n. record { num = n; den = p.den * q.den } in
     ap made (ap (λ z. p.num *ℤ pos q.den +ℤ z) (scaled_negated q.num p.den))
 
@@ -122,10 +122,10 @@ ratio-of_negated : (n : ℤ) (m : ℕ) → 0 < m → ratio n (neg_ℤ (pos m)) �
 ratio-of_negated n zero some = absurd (omega arith)
 ratio-of_negated n (suc m) some = refl
 
-pub product_of-reciprocal : (p q : Ratio) → 0 < p.den → product_of p (ratio (pos q.den) q.num) ≡ quotient_of p q
-product_of-reciprocal p q first = by q.num
+pub product_of_ratios-reciprocal : (p q : Ratio) → 0 < p.den → product_of_ratios p (ratio (pos q.den) q.num) ≡ quotient_of_ratios p q
+product_of_ratios-reciprocal p q first = by q.num
   where
-    by : (n : ℤ) → product_of p (ratio (pos q.den) n) ≡ ratio (p.num *ℤ pos q.den) (n *ℤ pos p.den)
+    by : (n : ℤ) → product_of_ratios p (ratio (pos q.den) n) ≡ ratio (p.num *ℤ pos q.den) (n *ℤ pos p.den)
     by (pos n) = ap (λ d. ratio (p.num *ℤ pos q.den) (pos d)) (mul_comm p.den n)
     by (negsuc n) =
         ap₂ (λ m d. ratio m (pos d)) (times_negated p.num q.den) (mul_comm p.den (suc n)) ∙ sym (ratio-of_negated (p.num *ℤ pos q.den) (suc n * p.den) (mul-pos (omega arith) first))

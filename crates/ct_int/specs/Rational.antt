@@ -5,7 +5,7 @@
 --     IsLowest r                the denominator is positive, and only 1 divides both parts
 --     IsCancelled p r           r is p, with both parts divided by their greatest common divisor
 --     IsLowestTerms p r         r is in lowest terms and has the value of p
---     opposite_of, sum_of, difference_of, product_of, quotient_of, order_of
+--     opposite_of, sum_of_ratios, difference_of_ratios, product_of_ratios, quotient_of_ratios, order_of_ratios
 --                               the operations, on numerators over a common denominator
 -- A ratio with the denominator 0 is no number: every rule here has positive denominators as its premise, and a quotient
 -- needs a divisor other than 0. No word here knows of a limit: `Limits` does. Cited by each call of `Rat`;
@@ -31,21 +31,21 @@ SameValue p q = p.num *ℤ pos q.den ≡ q.num *ℤ pos p.den
 abbrev pub opposite_of : Ratio → Ratio
 opposite_of p = record { num = neg_ℤ p.num; den = p.den }
 
-abbrev pub sum_of : Ratio → Ratio → Ratio
-sum_of p q = record { num = p.num *ℤ pos q.den +ℤ q.num *ℤ pos p.den; den = p.den * q.den }
+abbrev pub sum_of_ratios : Ratio → Ratio → Ratio
+sum_of_ratios p q = record { num = p.num *ℤ pos q.den +ℤ q.num *ℤ pos p.den; den = p.den * q.den }
 
-abbrev pub difference_of : Ratio → Ratio → Ratio
-difference_of p q = record { num = p.num *ℤ pos q.den -ℤ q.num *ℤ pos p.den; den = p.den * q.den }
+abbrev pub difference_of_ratios : Ratio → Ratio → Ratio
+difference_of_ratios p q = record { num = p.num *ℤ pos q.den -ℤ q.num *ℤ pos p.den; den = p.den * q.den }
 
-abbrev pub product_of : Ratio → Ratio → Ratio
-product_of p q = record { num = p.num *ℤ q.num; den = p.den * q.den }
+abbrev pub product_of_ratios : Ratio → Ratio → Ratio
+product_of_ratios p q = record { num = p.num *ℤ q.num; den = p.den * q.den }
 
-abbrev pub quotient_of : Ratio → Ratio → Ratio
-quotient_of p q = ratio (p.num *ℤ pos q.den) (q.num *ℤ pos p.den)
+abbrev pub quotient_of_ratios : Ratio → Ratio → Ratio
+quotient_of_ratios p q = ratio (p.num *ℤ pos q.den) (q.num *ℤ pos p.den)
 
 -- the order of the values
-abbrev pub order_of : Ratio → Ratio → Ordering
-order_of p q = int_cmp (p.num *ℤ pos q.den) (q.num *ℤ pos p.den)
+abbrev pub order_of_ratios : Ratio → Ratio → Ordering
+order_of_ratios p q = int_cmp (p.num *ℤ pos q.den) (q.num *ℤ pos p.den)
 
 -- a positive denominator, and no common divisor but 1
 pub record IsLowest (r : Ratio) : Type 0 where

@@ -1,6 +1,6 @@
 // Rational numbers in lowest terms, seen as a ratio.
 ghost use Rattle.std.specs.Prelude.{◌≡◌, ◌≢◌, ◌<◌, ◌≤◌, pos, neg_ℤ, ◌≤ℤ◌, unsigned_abs, IfOk, ◌↔◌};
-ghost use Rattle.ct_int.specs.Rational.{ratio, IsCancelled, IsLowestTerms, opposite_of, sum_of, difference_of, product_of, quotient_of, order_of};
+ghost use Rattle.ct_int.specs.Rational.{ratio, IsCancelled, IsLowestTerms, opposite_of, sum_of_ratios, difference_of_ratios, product_of_ratios, quotient_of_ratios, order_of_ratios};
 ghost use Rattle.ct_int.specs.Limits.{largest_whole, IsRational, SumPasses, LowestTermsPass, RefusesWhere};
 
 use crate::divisors::gcd;
@@ -67,7 +67,7 @@ impl Rat {
 
     /// The sum. It overflows by the size of the numerators that are added, also where they cancel.
     pub fn add(&self, other: &Rat) -> Result<Rat, IntFault>
-        ensures value { IfOk result (λ r. IsLowestTerms (sum_of self.now other.now) r) }
+        ensures value { IfOk result (λ r. IsLowestTerms (sum_of_ratios self.now other.now) r) }
         ensures overflows { RefusesWhere IntFault.Overflow (SumPasses self.now other.now) result }
     {
         let divisor = gcd(self.den, other.den);
@@ -80,7 +80,7 @@ impl Rat {
 
     /// The difference, which overflows where the sum does.
     pub fn sub(&self, other: &Rat) -> Result<Rat, IntFault>
-        ensures value { IfOk result (λ r. IsLowestTerms (difference_of self.now other.now) r) }
+        ensures value { IfOk result (λ r. IsLowestTerms (difference_of_ratios self.now other.now) r) }
         ensures overflows { RefusesWhere IntFault.Overflow (SumPasses self.now other.now) result }
     {
         self.add(&other.opposite())
@@ -88,8 +88,8 @@ impl Rat {
 
     /// The product.
     pub fn mul(&self, other: &Rat) -> Result<Rat, IntFault>
-        ensures value { IfOk result (λ r. IsLowestTerms (product_of self.now other.now) r) }
-        ensures overflows { RefusesWhere IntFault.Overflow (LowestTermsPass (product_of self.now other.now)) result }
+        ensures value { IfOk result (λ r. IsLowestTerms (product_of_ratios self.now other.now) r) }
+        ensures overflows { RefusesWhere IntFault.Overflow (LowestTermsPass (product_of_ratios self.now other.now)) result }
     {
         // Cancelled crosswise, two numbers in lowest terms have their product in lowest terms.
         let (left, below_right) = cancelled(self.num, other.den);
@@ -101,9 +101,9 @@ impl Rat {
 
     /// The quotient. A divisor of 0 is refused first.
     pub fn div(&self, other: &Rat) -> Result<Rat, IntFault>
-        ensures value { IfOk result (λ r. IsLowestTerms (quotient_of self.now other.now) r) }
+        ensures value { IfOk result (λ r. IsLowestTerms (quotient_of_ratios self.now other.now) r) }
         ensures divides { (result ≡ Err IntFault.ZeroDivisor) ↔ (other.now.num ≡ pos 0) }
-        ensures overflows { other.now.num ≢ pos 0 → RefusesWhere IntFault.Overflow (LowestTermsPass (quotient_of self.now other.now)) result }
+        ensures overflows { other.now.num ≢ pos 0 → RefusesWhere IntFault.Overflow (LowestTermsPass (quotient_of_ratios self.now other.now)) result }
     {
         // Read for its proof: the denominator of `self` is positive.
         let _ = &self.den;
@@ -116,7 +116,7 @@ impl Rat {
 
     /// The order by value.
     pub fn cmp(&self, other: &Rat) -> Ordering
-        ensures { result ≡ order_of self.now other.now }
+        ensures { result ≡ order_of_ratios self.now other.now }
     {
         let left = Wide::product(self.num.unsigned_abs(), other.den);
         let right = Wide::product(other.num.unsigned_abs(), self.den);

@@ -3,8 +3,8 @@
 -- written form is the coefficient terms of its sum). The value at a key tells equal lists of this form.
 use Rattle.std.specs.Prelude.{◌≡◌, refl, ℤ, List, [], ◌∷◌, ◌++◌}
 use Rattle.std.proofs.Common.{sym, ◌∙◌, ap, ap₂}
-use Rattle.ct_algebra.specs.Terms.{total, merged}
-use Rattle.ct_algebra.specs.Laws.Terms.{IsAdditive, total-merged}
+use Rattle.ct_algebra.specs.Terms.{sum_over, merged}
+use Rattle.ct_algebra.specs.Laws.Terms.{IsAdditive, sum_over-merged}
 use Rattle.ct_algebra.specs.Sums.{single, lift, lift-⊕, lift-single, same_hom}
 use Rattle.ct_algebra.specs.WholeNumbers.{int_group}
 use Rattle.ct_algebra.specs.Monomial.{Mono, monomials}
@@ -12,7 +12,7 @@ use Rattle.ct_algebra.specs.Polynomial.{Polynomial, polys, poly_set}
 use Rattle.ct_algebra.specs.Substitution.{term, term_is, term-sum}
 use Rattle.ct_algebra.specs.Operators.{Operator, operator_group, operator_set, term_of, sum_of_operators}
 use Rattle.ct_algebra.proofs.OperatorTerms.{sums_are, term_of_hom, term_of-single}
-use Rattle.ct_algebra.proofs.Merging.{total-append}
+use Rattle.ct_algebra.proofs.Merging.{sum_over-append}
 use Rattle.ct_ore.specs.declared.coefficient_term.CoefficientTerm.{CoefficientTerm}
 use Rattle.ct_ore.specs.CoefficientTerms.{by_parts, keyed, part, sum_of_parts, row_of, all_terms, coefficient_terms}
 
@@ -29,7 +29,7 @@ pub sum_of_parts-append :
     (ts us : List CoefficientTerm) → sum_of_parts (ts ++ us) ≡ sum_of_operators (sum_of_parts ts) (sum_of_parts us)
 unfolding sum_of_parts
 sum_of_parts-append ts us =
-    ap (total operator_group part) (keyed-append ts us) ∙ total-append operator_group part (keyed ts) (keyed us)
+    ap (sum_over operator_group part) (keyed-append ts us) ∙ sum_over-append operator_group part (keyed ts) (keyed us)
     ∙ sym (sums_are _ _)
 
 pub sum_of_parts-merged :
@@ -37,22 +37,22 @@ pub sum_of_parts-merged :
     sum_of_parts vs ≡ sum_of_operators (sum_of_parts ts) (sum_of_parts us)
 unfolding sum_of_parts
 sum_of_parts-merged ts us vs same =
-    ap (total operator_group part) same ∙ total-merged part_additive by_parts (keyed ts) (keyed us) ∙ sym (sums_are _ _)
+    ap (sum_over operator_group part) same ∙ sum_over-merged part_additive by_parts (keyed ts) (keyed us) ∙ sym (sums_are _ _)
 
 -- ---- an operator is the sum of its coefficient terms
 
-total-coefficient :
+sum_over-coefficient :
     (m : Mono) (es : List (Mono × ℤ)) →
-    total operator_group part (keyed (row_of m es)) ≡
-    total operator_group (λ n x. term_of m (term n x)) es
-total-coefficient m [] = refl
-total-coefficient m (e ∷ es) = ap (operator_group.◌+◌ (term_of m (term e.0 e.1))) (total-coefficient m es)
+    sum_over operator_group part (keyed (row_of m es)) ≡
+    sum_over operator_group (λ n x. term_of m (term n x)) es
+sum_over-coefficient m [] = refl
+sum_over-coefficient m (e ∷ es) = ap (operator_group.◌+◌ (term_of m (term e.0 e.1))) (sum_over-coefficient m es)
 
 term_additive : (m : Mono) → IsAdditive int_group operator_group (λ n x. term_of m (term n x))
 term_additive m = record { sums = λ n x y. ap (term_of m) (term-sum n x y) ∙ (term_of_hom m).sums _ _ }
 
 sum_of_coefficient :
-    (m : Mono) (c : Polynomial) → total operator_group (λ n x. term_of m (term n x)) c.terms ≡ term_of m c
+    (m : Mono) (c : Polynomial) → sum_over operator_group (λ n x. term_of m (term n x)) c.terms ≡ term_of m c
 unfolding lift
 sum_of_coefficient m c =
     same_hom monomials int_group poly_set operator_group (lift monomials int_group operator_group (λ n x. term_of m (term n x))) (term_of m)
@@ -66,16 +66,16 @@ sum_of_coefficient m c =
         lift-single monomials int_group operator_group _ (term_additive m) n x
         ∙ ap (term_of m) (term_is n x)
 
-total-coefficients :
+sum_over-coefficients :
     (es : List (Mono × Polynomial)) →
-    total operator_group part (keyed (all_terms es)) ≡ total operator_group term_of es
-total-coefficients [] = refl
-total-coefficients (e ∷ es) =
-    ap (total operator_group part) (keyed-append (row_of e.0 e.1.terms) _)
-    ∙ total-append operator_group part _ _
-    ∙ ap₂ operator_group.◌+◌ (total-coefficient e.0 e.1.terms ∙ sum_of_coefficient e.0 e.1) (total-coefficients es)
+    sum_over operator_group part (keyed (all_terms es)) ≡ sum_over operator_group term_of es
+sum_over-coefficients [] = refl
+sum_over-coefficients (e ∷ es) =
+    ap (sum_over operator_group part) (keyed-append (row_of e.0 e.1.terms) _)
+    ∙ sum_over-append operator_group part _ _
+    ∙ ap₂ operator_group.◌+◌ (sum_over-coefficient e.0 e.1.terms ∙ sum_of_coefficient e.0 e.1) (sum_over-coefficients es)
 
-sum_of_terms : (p : Operator) → total operator_group term_of p.terms ≡ p
+sum_of_terms : (p : Operator) → sum_over operator_group term_of p.terms ≡ p
 unfolding lift
 sum_of_terms p =
     same_hom monomials polys.group operator_set operator_group (lift monomials polys.group operator_group term_of) (λ q. q)
@@ -87,4 +87,4 @@ sum_of_terms p =
 
 pub sum_of_coefficients : (p : Operator) → sum_of_parts (coefficient_terms p) ≡ p
 unfolding sum_of_parts coefficient_terms
-sum_of_coefficients p = total-coefficients p.terms ∙ sum_of_terms p
+sum_of_coefficients p = sum_over-coefficients p.terms ∙ sum_of_terms p

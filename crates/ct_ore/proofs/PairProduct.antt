@@ -2,7 +2,7 @@
 -- Name after name, symbols go before a list; a polynomial before it is a multiple. An operator is known from its single terms.
 use Rattle.std.proofs.Common.{◌≡◌, ℤ, ◌*ℤ◌, List, [], ◌∷◌, sym, ◌∙◌, ap, ap₂}
 use Rattle.ct_algebra.specs.Group.{Group, IsHom, hom_zero}
-use Rattle.ct_algebra.specs.Terms.{total}
+use Rattle.ct_algebra.specs.Terms.{sum_over}
 use Rattle.ct_algebra.specs.Laws.Terms.{IsAdditive}
 use Rattle.ct_algebra.specs.Sums.{lift, lift-⊕, lift-single, same_hom}
 use Rattle.ct_algebra.specs.Monomial.{Mono, monomials, exp, ◌·◌}
@@ -66,40 +66,40 @@ module _ (a : Name → Action) where
       sum_of_parts-cons _ (multiplied n x ts) ∙ ap₂ G.◌+◌ (multiplied-term n x t) (multiplied-value n x ts)
       ∙ sym (ap (multiple a (term n x)) (sum_of_parts-cons t ts) ∙ (multiple_hom (term n x)).sums _ _)
 
-  pub total-multiplied :
+  pub sum_over-multiplied :
       (us : List (Mono × ℤ)) (ts : List CoefficientTerm) →
-      sum_of_parts (multiplied_by us ts) ≡ total G (λ n x. multiple a (term n x) (sum_of_parts ts)) us
-  total-multiplied [] ts = sum_of_parts-none
-  total-multiplied (u ∷ us) ts =
+      sum_of_parts (multiplied_by us ts) ≡ sum_over G (λ n x. multiple a (term n x) (sum_of_parts ts)) us
+  sum_over-multiplied [] ts = sum_of_parts-none
+  sum_over-multiplied (u ∷ us) ts =
       sum_of_parts-append (multiplied u.0 u.1 ts) (multiplied_by us ts) ∙ sums_are _ _
-      ∙ ap₂ G.◌+◌ (multiplied-value u.0 u.1 ts) (total-multiplied us ts)
+      ∙ ap₂ G.◌+◌ (multiplied-value u.0 u.1 ts) (sum_over-multiplied us ts)
 
   number_additive : (q : Operator) → IsAdditive int_group G (λ n x. multiple a (term n x) q)
   number_additive q = record { sums = λ n x y. ap (λ c. multiple a c q) (term-sum n x y) ∙ (multiples_hom q).sums _ _ }
 
-  total-multiple : (c : Polynomial) (q : Operator) → total G (λ n x. multiple a (term n x) q) c.terms ≡ multiple a c q
+  sum_over-multiple : (c : Polynomial) (q : Operator) → sum_over G (λ n x. multiple a (term n x) q) c.terms ≡ multiple a c q
   unfolding lift
-  total-multiple c q =
+  sum_over-multiple c q =
       same_hom monomials int_group poly_set G (lift monomials int_group G (λ n x. multiple a (term n x) q)) (λ c. multiple a c q)
       (record { sums = lift-⊕ monomials int_group G _ (number_additive q) }) (multiples_hom q)
       (λ n x. lift-single monomials int_group G _ (number_additive q) n x ∙ ap (λ c. multiple a c q) (term_is n x)) c
 
   pub multiplied_by-value :
       (c : Polynomial) (ts : List CoefficientTerm) → sum_of_parts (multiplied_by c.terms ts) ≡ multiple a c (sum_of_parts ts)
-  multiplied_by-value c ts = total-multiplied c.terms ts ∙ total-multiple c (sum_of_parts ts)
+  multiplied_by-value c ts = sum_over-multiplied c.terms ts ∙ sum_over-multiple c (sum_of_parts ts)
 
   -- ---- operators
 
   abbrev term_before : Operator → Mono → Polynomial → Operator
   term_before q m c = multiple a c (power (symbol_before a) m q)
 
-  total-product :
+  sum_over-product :
       (es : List (Mono × Polynomial)) (ts : List CoefficientTerm) →
-      sum_of_parts (product_terms a es ts) ≡ total G (term_before (sum_of_parts ts)) es
-  total-product [] ts = sum_of_parts-none
-  total-product (e ∷ es) ts =
+      sum_of_parts (product_terms a es ts) ≡ sum_over G (term_before (sum_of_parts ts)) es
+  sum_over-product [] ts = sum_of_parts-none
+  sum_over-product (e ∷ es) ts =
       sum_of_parts-append (multiplied_by e.1.terms (expanded a e.0 ts)) (product_terms a es ts) ∙ sums_are _ _
-      ∙ ap₂ G.◌+◌ (multiplied_by-value e.1 (expanded a e.0 ts) ∙ ap (multiple a e.1) (expanded-value e.0 ts)) (total-product es ts)
+      ∙ ap₂ G.◌+◌ (multiplied_by-value e.1 (expanded a e.0 ts) ∙ ap (multiple a e.1) (expanded-value e.0 ts)) (sum_over-product es ts)
 
   term_additive : (q : Operator) → IsAdditive P G (term_before q)
   term_additive q = record { sums = λ m b c. (multiples_hom (power (symbol_before a) m q)).sums b c }
@@ -107,9 +107,9 @@ module _ (a : Name → Action) where
   products_hom : (q : Operator) → IsHom G G (λ p. product_of a p q)
   products_hom q = record { sums = λ p r. ap (λ w. product_of a w q) (sym (sums_are p r)) ∙ product_of-sum_left a p r q ∙ sums_are _ _ }
 
-  total-products : (p q : Operator) → total G (term_before q) p.terms ≡ product_of a p q
+  sum_over-products : (p q : Operator) → sum_over G (term_before q) p.terms ≡ product_of a p q
   unfolding lift
-  total-products p q =
+  sum_over-products p q =
       same_hom monomials P operator_set G (lift monomials P G (term_before q)) (λ p. product_of a p q)
       (record { sums = lift-⊕ monomials P G _ (term_additive q) }) (products_hom q)
       (λ m c. lift-single monomials P G _ (term_additive q) m c ∙ sym (product_of-term_of a m c q)
@@ -117,7 +117,7 @@ module _ (a : Name → Action) where
 
   pub product_terms-value :
       (p : Operator) (ts : List CoefficientTerm) → sum_of_parts (product_terms a p.terms ts) ≡ product_of a p (sum_of_parts ts)
-  product_terms-value p ts = total-product p.terms ts ∙ total-products p (sum_of_parts ts)
+  product_terms-value p ts = sum_over-product p.terms ts ∙ sum_over-products p (sum_of_parts ts)
 
   pub product-value : (p q : Operator) → sum_of_parts (product_terms a p.terms (coefficient_terms q)) ≡ product_of a p q
   product-value p q = product_terms-value p (coefficient_terms q) ∙ ap (product_of a p) (sum_of_coefficients q)

@@ -4,7 +4,7 @@
 use Rattle.std.specs.Prelude.{◌≡◌, refl, ℤ, T, List, [], ◌∷◌, ◌++◌, map}
 use Rattle.std.proofs.Common.{sym, ◌∙◌, ap, ap₂, subst, Ordering, Less, Equal, Greater}
 use Rattle.std.specs.Ordering.{ordering_then}
-use Rattle.ct_algebra.specs.Terms.{by_order, is_less, total, pick, value_at, AllBelow, IsCanonical}
+use Rattle.ct_algebra.specs.Terms.{by_order, is_less, sum_over, pick, value_at, AllBelow, IsCanonical}
 use Rattle.ct_algebra.specs.Laws.Terms.{same_list, less_is}
 use Rattle.ct_algebra.specs.Sums.{at, at-⊕, at-none, at-single}
 use Rattle.ct_algebra.specs.WholeNumbers.{int_group}
@@ -38,11 +38,11 @@ number_at-part k x m n =
 
 number_at-sum :
     (es : List ((Mono × Mono) × ℤ)) (m n : Mono) →
-    number_at (total operator_group part es) m n ≡ value_at by_parts int_group es (m, n)
+    number_at (sum_over operator_group part es) m n ≡ value_at by_parts int_group es (m, n)
 number_at-sum [] m n =
     ap (λ c. at monomials int_group c n) (at-none monomials polys.group m) ∙ at-none monomials int_group n
 number_at-sum (e ∷ es) m n =
-    ap (λ c. at monomials int_group c n) (at-⊕ monomials polys.group (part e.0 e.1) (total operator_group part es) m)
+    ap (λ c. at monomials int_group c n) (at-⊕ monomials polys.group (part e.0 e.1) (sum_over operator_group part es) m)
     ∙ at-⊕ monomials int_group _ _ n
     ∙ ap₂ int_group.◌+◌ (number_at-part e.0 e.1 m n) (number_at-sum es m n)
 

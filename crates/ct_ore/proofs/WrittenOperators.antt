@@ -2,7 +2,7 @@
 -- Main lemmas `terms_of`, `is_none`, `value_of_terms`. A canonical list is the terms of its operator.
 use Rattle.std.proofs.Common.{◌≡◌, ◌↔◌, refl, List, [], ◌∷◌, ◌++◌, length, sym, ◌∙◌, ap, subst, arith}
 use Rattle.ct_algebra.specs.Terms.{IsCanonical}
-use Rattle.ct_algebra.specs.Laws.Terms.{same_list, IsCanonical-merged, total-merged, pick-IsAdditive}
+use Rattle.ct_algebra.specs.Laws.Terms.{same_list, IsCanonical-merged, sum_over-merged, pick-IsAdditive}
 use Rattle.ct_algebra.specs.Sums.{same_terms, sum_of, none}
 use Rattle.ct_algebra.specs.Monomial.{Mono, monomials}
 use Rattle.ct_algebra.specs.Polynomial.{Polynomial, polys}
@@ -14,7 +14,7 @@ pub terms-operator_of :
     (es : List (Mono × Polynomial)) → IsCanonical monomials polys.group es → (operator_of es).terms ≡ es
 unfolding operator_of sum_of
 terms-operator_of es h =
-    same_list monomials polys.group _ _ (IsCanonical-merged monomials polys.group es [] tt) h (λ k. total-merged (pick-IsAdditive monomials polys.group k) monomials es [] ∙ polys.group.add_zero _)
+    same_list monomials polys.group _ _ (IsCanonical-merged monomials polys.group es [] tt) h (λ k. sum_over-merged (pick-IsAdditive monomials polys.group k) monomials es [] ∙ polys.group.add_zero _)
 
 pub terms_of : {p : Operator} (ts : List OpTerm) → IsOperator ts → operator_of_terms ts ≡ p → op_entries ts ≡ p.terms
 unfolding operator_of_terms

@@ -10,7 +10,7 @@ use Rattle.std.specs.Prelude.{ℕ, ℤ, nat_abs, List, map, flat_map, sum_by}
 use Rattle.std.proofs.Common.{sym, ◌∙◌, ap, Ordering, Less, Equal, Greater, ◌≡◌, refl}
 use Rattle.std.specs.Ordering.{ordering_then, ordering_reverse, then_cmp, on}
 use Rattle.std.specs.Cmp.{IsTotalOrder, then_total, on_total, tied_itself}
-use Rattle.ct_algebra.specs.Terms.{Keys, total, IsCanonical}
+use Rattle.ct_algebra.specs.Terms.{Keys, sum_over, IsCanonical}
 use Rattle.ct_algebra.specs.WholeNumbers.{int_group}
 use Rattle.ct_algebra.specs.Monomial.{Mono, mono_set, mono_cmp, mono_tied, mono_cmp_total}
 use Rattle.ct_algebra.specs.Polynomial.{Polynomial}
@@ -75,7 +75,7 @@ abbrev pub part : Mono × Mono → ℤ → Operator
 part k n = term_of k.0 (term k.1 n)
 
 unfoldable pub sum_of_parts : List CoefficientTerm → Operator
-sum_of_parts ts = total operator_group part (keyed ts)
+sum_of_parts ts = sum_over operator_group part (keyed ts)
 
 abbrev pub IsWritten : List CoefficientTerm → Type 0
 IsWritten ts = IsCanonical by_parts int_group (keyed ts)

@@ -125,7 +125,7 @@ merging_alone ps qs done f q h =
     record {
       left = subst (IsCanonical monomials int_group) (sym (append-nil (done ++ f ∷ []))) (merging.front_canonical monomials int_group (done ++ f ∷ []) q whole);
       right = whole;
-      values = λ k. ap (λ z. z +ℤ (pos 0 +ℤ value_at monomials int_group q k)) (merging.total-append int_group (pick monomials int_group k) done (f ∷ []))
+      values = λ k. ap (λ z. z +ℤ (pos 0 +ℤ value_at monomials int_group q k)) (merging.sum_over-append int_group (pick monomials int_group k) done (f ∷ []))
           ∙ regroup (value_at monomials int_group done k) (pick monomials int_group k f.0 f.1) (value_at monomials int_group q k) ∙ h.values k;
     }
   where

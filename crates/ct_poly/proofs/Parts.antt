@@ -11,7 +11,7 @@ use Rattle.ct_algebra.specs.Names.{Name, name_with}
 use Rattle.ct_algebra.specs.Polynomial.{Polynomial, polys, poly_of, norm_of}
 use Rattle.ct_algebra.specs.Substitution.{term}
 use Rattle.ct_algebra.specs.Sums.{lift}
-use Rattle.ct_algebra.specs.Terms.{AllBelow, IsCanonical, is_less, by_order, total}
+use Rattle.ct_algebra.specs.Terms.{AllBelow, IsCanonical, is_less, by_order, sum_over}
 use Rattle.ct_algebra.specs.WholeNumbers.{int_group}
 use Rattle.ct_algebra.proofs.CoefficientLaws.{outside-inside}
 use Rattle.ct_algebra.proofs.TermProducts.{sum_of-append, sum_of-none}
@@ -179,7 +179,7 @@ canonical_in js e (d ∷ es) canonical = by (mono_cmp (inside js d.0) e) refl (c
 
 -- ---- its value and measures
 
-value_in : (js : List Name) (e : Mono) (es : List (Mono × ℤ)) → poly_of (terms_in js e es) ≡ total polys.group (term_in js e) es
+value_in : (js : List Name) (e : Mono) (es : List (Mono × ℤ)) → poly_of (terms_in js e es) ≡ sum_over polys.group (term_in js e) es
 unfolding poly_of
 value_in js e [] = sum_of-none monomials int_group
 value_in js e (d ∷ es) =
@@ -217,7 +217,7 @@ pub part_kept :
 unfolding coefficient_in lift poly_of_terms
 part_kept {p} js e ts v mine same made = record {
   falling = subst (IsCanonical monomials int_group) (sym made) (canonical_in js e (entries ts) mine.falling);
-  value = ap poly_of made ∙ value_in js e (entries ts) ∙ ap (total polys.group (term_in js e)) same;
+  value = ap poly_of made ∙ value_in js e (entries ts) ∙ ap (sum_over polys.group (term_in js e)) same;
   few = omega (arith, mine.few, length-entries v, ap length made, length_in js e (entries ts), length-entries ts);
   small = omega (arith, mine.small, norm_of-entries v, ap norm_of made, size_in js e (entries ts), norm_of-entries ts);
 }

@@ -6,8 +6,8 @@ use Rattle.std.proofs.Common.{◌≡◌, ◌≢◌, ℕ, zero, suc, ◌<◌, ◌
 use Rattle.std.specs.Prelude.{slice_get, map, ◌==◌, replicate}
 use Rattle.std.proofs.lemmas.Bool.Decides.{nat_tests}
 use Rattle.std.proofs.lemmas.List.{length-replicate}
-use Rattle.ct_core.specs.Counting.{total, times, one_if, Each}
-use Rattle.ct_core.proofs.Totals.{total-append, each_here, each_there}
+use Rattle.ct_core.specs.Counting.{sum_over, times, one_if, Each}
+use Rattle.ct_core.proofs.Totals.{sum_over-append, each_here, each_there}
 use Rattle.ct_pool.specs.declared.job.Outcome.{Outcome}
 use Rattle.ct_pool.specs.declared.job.Outcome.TheVariants.{Hit}
 use Rattle.ct_pool.specs.Found.{FoundValue, AreSlots, AreFound, LeftEmpty, Covers, numbers_of, hits_of, bound_of}
@@ -25,7 +25,7 @@ times_found k f = times k (numbers_of f.0)
 -- the least hit is among those still to come, or found
 abbrev pub BestIs : {M H : Type 0} → (ℕ → Outcome M H) → Option ℕ → Option H → List (FoundValue M H) → Type 0
 BestIs outcome None best fs = Unit {0}
-BestIs outcome (Some m) None fs = 1 ≤ total (hits_of m) fs
+BestIs outcome (Some m) None fs = 1 ≤ sum_over (hits_of m) fs
 BestIs outcome (Some m) (Some h) fs = outcome m ≡ Hit h
 
 -- while what the workers found is put together: what is still to come fills the empty slots
@@ -33,14 +33,14 @@ pub record Concluding {M H : Type 0} (outcome : ℕ → Outcome M H) (count : �
   pub slots_are : AreSlots outcome slots
   pub size : length slots ≡ bound_of count least
   pub found : Each (AreFound outcome) fs
-  pub left : (k : ℕ) → slice_get slots k ≡ Some None → 1 ≤ total (times_found k) fs
+  pub left : (k : ℕ) → slice_get slots k ≡ Some None → 1 ≤ sum_over (times_found k) fs
   pub best_is : BestIs outcome least best fs
 
 module _ {M H : Type 0} (outcome : ℕ → Outcome M H) where
   best_keep : (least : Option ℕ) (best : Option H) (fs fs' : List (FoundValue M H)) (f : FoundValue M H) → fs ≡ fs' ++ f ∷ [] → ((m : ℕ) → least ≡ Some m → hits_of m f ≡ 0) → BestIs outcome least best fs → BestIs outcome least best fs'
   best_keep None best fs fs' f e z b = tt
   best_keep (Some m) None fs fs' f e z b =
-      let t = total-append (hits_of m) fs' (f ∷ []) in let u = ap (total (hits_of m)) e in let o = z m refl in omega arith
+      let t = sum_over-append (hits_of m) fs' (f ∷ []) in let u = ap (sum_over (hits_of m)) e in let o = z m refl in omega arith
   best_keep (Some m) (Some h) fs fs' f e z b = b
 
   best_new : (least : Option ℕ) (i : ℕ) (v : H) (fs' : List (FoundValue M H)) → least ≡ Some i → outcome i ≡ Hit v → BestIs outcome least (Some v) fs'
@@ -61,9 +61,9 @@ module _ {M H : Type 0} (outcome : ℕ → Outcome M H) where
       found = here.1;
       left = λ j at.
           let r = left j at in
-          let a : 1 ≤ total (times_found j) fs = k.left j r.0 in
-          let t = total-append (times_found j) fs' ((ms, hit) ∷ []) in
-          let u = ap (total (times_found j)) e in
+          let a : 1 ≤ sum_over (times_found j) fs = k.left j r.0 in
+          let t = sum_over-append (times_found j) fs' ((ms, hit) ∷ []) in
+          let u = ap (sum_over (times_found j)) e in
           let z : times_found j (ms, hit) ≡ 0 = r.1 in omega arith;
       best_is = b;
     }
@@ -104,7 +104,7 @@ module _ {M H : Type 0} (outcome : ℕ → Outcome M H) where
     best_is = best least covers.1;
   }
     where
-      best : (l : Option ℕ) → Rattle.std.specs.Prelude.IfSome l (λ m. 1 ≤ total (hits_of m) fs) → BestIs outcome l None fs
+      best : (l : Option ℕ) → Rattle.std.specs.Prelude.IfSome l (λ m. 1 ≤ sum_over (hits_of m) fs) → BestIs outcome l None fs
       best None h = tt
       best (Some m) h = h
 
@@ -112,12 +112,12 @@ module _ {M H : Type 0} (outcome : ℕ → Outcome M H) where
 pub last_found : {M H : Type 0} (outcome : ℕ → Outcome M H) (count : ℕ) (least : Option ℕ) (slots : List (Option M)) (best : Option H) (fs fs' : List (FoundValue M H)) (f : FoundValue M H) → fs ≡ fs' ++ f ∷ [] → Concluding outcome count least slots best fs → AreFound outcome f
 last_found outcome count least slots best fs fs' f e k = (each_there (AreFound outcome) fs' (f ∷ []) (subst (Each (AreFound outcome)) e k.found)).0
 
-total_map : {X Y : Type 0} (f : X → Y) (g : Y → ℕ) (xs : List X) → total g (map f xs) ≡ total (λ x. g (f x)) xs
-total_map f g [] = refl
-total_map f g (x ∷ xs) = omega (arith, total_map f g xs)
+sum_over-map : {X Y : Type 0} (f : X → Y) (g : Y → ℕ) (xs : List X) → sum_over g (map f xs) ≡ sum_over (λ x. g (f x)) xs
+sum_over-map f g [] = refl
+sum_over-map f g (x ∷ xs) = omega (arith, sum_over-map f g xs)
 
-same_totals : {X Y Z : Type 0} (f : X → Z) (h : Y → Z) (g : Z → ℕ) (xs : List X) (ys : List Y) → map f xs ≡ map h ys → total (λ x. g (f x)) xs ≡ total (λ y. g (h y)) ys
-same_totals f h g xs ys e = sym (total_map f g xs) ∙ ap (total g) e ∙ total_map h g ys
+same_totals : {X Y Z : Type 0} (f : X → Z) (h : Y → Z) (g : Z → ℕ) (xs : List X) (ys : List Y) → map f xs ≡ map h ys → sum_over (λ x. g (f x)) xs ≡ sum_over (λ y. g (h y)) ys
+same_totals f h g xs ys e = sym (sum_over-map f g xs) ∙ ap (sum_over g) e ∙ sum_over-map h g ys
 
 pub covers_from : {M H : Type 0} (count : ℕ) (least : Option ℕ) (views : List Sight) (fs : List (FoundValue M H)) → map key_found fs ≡ map key_of views → DecidedBy count views least → Covers (bound_of count least) least fs
 covers_from {M = M} {H = H} count None views fs e d =

@@ -6,7 +6,7 @@ use Rattle.std.proofs.lemmas.Bool.Decides.{nat_tests}
 use Rattle.std.proofs.lemmas.Option.{slice_get_within}
 use Rattle.std.proofs.lemmas.List.{reverse-append}
 use Rattle.ct_core.specs.Counting.{times, one_if}
-use Rattle.ct_core.proofs.Totals.{total-append, each_here, each_there}
+use Rattle.ct_core.proofs.Totals.{sum_over-append, each_here, each_there}
 use Rattle.ct_pool.specs.declared.job.Outcome.{Outcome}
 use Rattle.ct_pool.specs.declared.job.Outcome.TheVariants.{Miss}
 use Rattle.ct_pool.specs.FirstDecided.{outcomes_below}
@@ -30,7 +30,7 @@ module _ {M H : Type 0} (outcome : ℕ → Outcome M H) where
   last_counts k n m ms ms' e ne =
       let a = ap (λ l. times k (numbers_of l)) e in
       let b = ap (times k) (map_push (λ (p : ℕ × M). p.0) ms' (n, m)) in
-      let c = total-append (λ y. one_if (y == k)) (numbers_of ms') (n ∷ []) in
+      let c = sum_over-append (λ y. one_if (y == k)) (numbers_of ms') (n ∷ []) in
       let d : one_if (n == k) ≡ 0 = apart n k ne in omega arith
     where
       apart : (n k : ℕ) → k ≢ n → one_if (n == k) ≡ 0

@@ -8,9 +8,9 @@ use mathlib.Core.Option.{some, some-injective, some-ne-none}
 use lib.ListN.{get_elem?}
 use Rattle.atomic_table.proofs.Lists.{set_else}
 use Rattle.ct_core.specs.Machine.{Sight}
-use Rattle.ct_core.specs.Counting.{total, one_if, sum_below, Each}
+use Rattle.ct_core.specs.Counting.{sum_over, one_if, sum_below, Each}
 use Rattle.ct_core.specs.Kept.{Kept, Fits, list_of}
-use Rattle.ct_core.proofs.Totals.{total-append, total_below, each_map}
+use Rattle.ct_core.proofs.Totals.{sum_over-append, sum_over-below, each_map}
 use Rattle.ct_pool.specs.declared.note.Note.{Note}
 use Rattle.ct_pool.specs.Notes.{root_note, live_note, sights_of, flat}
 
@@ -69,14 +69,14 @@ past_count count (suc n) = one (one_if (nat_le count n)) (past_count count n) re
         step : (n count b : ℕ) → n ≤ count + b → suc n ≤ count + (b + one_if (nat_le count n))
         step n count b h = grind (arith, nat_tests)
 
-none_past : (count : ℕ) (xs : List ℕ) → Each (λ x. x < count) xs → total (λ x. one_if (nat_le count x)) xs ≡ 0
+none_past : (count : ℕ) (xs : List ℕ) → Each (λ x. x < count) xs → sum_over (λ x. one_if (nat_le count x)) xs ≡ 0
 none_past count [] a = refl
 none_past count (x ∷ xs) a = let z : one_if (nat_le count x) ≡ 0 = below count x a.0 in omega (arith, none_past count xs a.1)
   where
     below : (count x : ℕ) → x < count → one_if (nat_le count x) ≡ 0
     below count x h = grind (arith, nat_tests)
 
-at_most_one : (h : ℕ → Bool) (o : Option ℕ) → total (λ x. one_if (h x)) (list_of o) ≤ 1
+at_most_one : (h : ℕ → Bool) (o : Option ℕ) → sum_over (λ x. one_if (h x)) (list_of o) ≤ 1
 at_most_one h None = omega arith
 at_most_one h (Some x) = let z = one_at (h x) in omega arith
   where
@@ -84,14 +84,14 @@ at_most_one h (Some x) = let z = one_at (h x) in omega arith
     one_at true = omega arith
     one_at false = omega arith
 
-one_past : (count : ℕ) (least : Option ℕ) (v : Sight) → Fits count least v → total (λ x. one_if (nat_le count x)) v.claims ≤ 1
+one_past : (count : ℕ) (least : Option ℕ) (v : Sight) → Fits count least v → sum_over (λ x. one_if (nat_le count x)) v.claims ≤ 1
 one_past count least v f =
-    let a = ap (total (λ x. one_if (nat_le count x))) f.claims_are in
-    let b = total-append (λ x. one_if (nat_le count x)) v.refuted (list_of v.pending) in
+    let a = ap (sum_over (λ x. one_if (nat_le count x))) f.claims_are in
+    let b = sum_over-append (λ x. one_if (nat_le count x)) v.refuted (list_of v.pending) in
     let c = none_past count v.refuted f.refuted_below in
     let d = at_most_one (λ x. nat_le count x) v.pending in omega arith
 
-ones : (views : List Sight) → total (λ v. 1) views ≡ length views
+ones : (views : List Sight) → sum_over (λ v. 1) views ≡ length views
 ones [] = refl
 ones (v ∷ vs) = omega (arith, ones vs)
 
@@ -99,5 +99,5 @@ pub next_bound : (count next : ℕ) (least : Option ℕ) (views : List Sight) �
 next_bound count next least views k =
     let a = past_count count next in
     let b = k.claimed (λ x. one_if (nat_le count x)) in
-    let c = total_below (λ v. total (λ x. one_if (nat_le count x)) v.claims) (λ v. 1) views (each_map (Fits count least) (λ v. total (λ x. one_if (nat_le count x)) v.claims ≤ 1) views (λ v f. one_past count least v f) k.fits) in
+    let c = sum_over-below (λ v. sum_over (λ x. one_if (nat_le count x)) v.claims) (λ v. 1) views (each_map (Fits count least) (λ v. sum_over (λ x. one_if (nat_le count x)) v.claims ≤ 1) views (λ v f. one_past count least v f) k.fits) in
     let d = ones views in omega arith

@@ -10,11 +10,11 @@ use Rattle.atomic_table.specs.Table.{State, Me, Allows, Splits, Joins}
 use Rattle.atomic_table.specs.Table.Act.{keeps as holds_still}
 use Rattle.atomic_table.proofs.Lists.{set_again}
 use Rattle.ct_core.specs.Machine.{Sight}
-use Rattle.ct_core.specs.Counting.{total, Each}
+use Rattle.ct_core.specs.Counting.{sum_over, Each}
 use Rattle.ct_core.specs.CompleteList.{has_hit}
 use Rattle.ct_core.specs.Kept.{Kept, Fits}
 use Rattle.ct_core.specs.Machine.{fresh}
-use Rattle.ct_core.proofs.Totals.{total-append, each_append, each_here, each_there}
+use Rattle.ct_core.proofs.Totals.{sum_over-append, each_append, each_here, each_there}
 use Rattle.ct_pool.specs.declared.note.Note.{Note}
 use Rattle.ct_pool.specs.Notes.{root_note, live_note, spent_note, sights_of, flat, word_of, least_of}
 use Rattle.ct_pool.specs.ClaimRule.{IsRuled, AllBack}
@@ -32,11 +32,11 @@ fresh_fits : (count : ℕ) (least : Option ℕ) → Fits count least fresh
 fresh_fits count least = record { claims_are = refl; refuted_below = tt; looked_below = λ e. absurd (cc); hit_is = tt; seen_is = tt; stopped_is = λ e. absurd (cc) }
 
 -- the views in another order, or with a fresh one
-kept_by : (count next : ℕ) (least : Option ℕ) (xs ys : List Sight) → ((f : Sight → ℕ) → f fresh ≡ 0 → total f ys ≡ total f xs) → (((P : Sight → Type 0) → P fresh → Each P xs → Each P ys)) → Kept count next least xs → Kept count next least ys
+kept_by : (count next : ℕ) (least : Option ℕ) (xs ys : List Sight) → ((f : Sight → ℕ) → f fresh ≡ 0 → sum_over f ys ≡ sum_over f xs) → (((P : Sight → Type 0) → P fresh → Each P xs → Each P ys)) → Kept count next least xs → Kept count next least ys
 kept_by count next least xs ys same each k = record {
-  claimed = λ h. same (λ v. total h v.claims) refl ∙ k.claimed h;
+  claimed = λ h. same (λ v. sum_over h v.claims) refl ∙ k.claimed h;
   fits = each (Fits count least) (fresh_fits count least) k.fits;
-  least_hit = if_some (λ m. 1 ≤ total (has_hit m) xs) (λ m. 1 ≤ total (has_hit m) ys) least (λ m h. let s = same (has_hit m) refl in omega arith) k.least_hit;
+  least_hit = if_some (λ m. 1 ≤ sum_over (has_hit m) xs) (λ m. 1 ≤ sum_over (has_hit m) ys) least (λ m h. let s = same (has_hit m) refl in omega arith) k.least_hit;
 }
 
 set_root : (views : List Note) (count made made' : ℕ) (joined : List Sight) → get_elem? views 0 ≡ some (root_note count made joined) → (flat (set views 0 (root_note count made' joined)) ≡ flat views) × (get_elem? (set views 0 (root_note count made' joined)) 0 ≡ some (root_note count made' joined))
@@ -67,7 +67,7 @@ splits count id made joined id_is room s r at =
       words = r.words;
       kept = subst (Kept count r.next r.least) (sym flat_is)
           (kept_by count r.next r.least (flat s.views) (flat s.views ++ fresh ∷ [])
-          (λ f z. let t = total-append f (flat s.views) (fresh ∷ []) in omega arith)
+          (λ f z. let t = sum_over-append f (flat s.views) (fresh ∷ []) in omega arith)
           (λ P p e. each_append P (flat s.views) (fresh ∷ []) e (p, tt)) r.kept);
       root = at_longer views' (live_note fresh ∷ []) _ (ap (λ l. get_elem? l 0) to0 ∙ g.1);
       size = let n = length-append (flat s.views) (fresh ∷ []) in let q = ap length flat_is in omega arith;
@@ -77,10 +77,10 @@ splits count id made joined id_is room s r at =
 
 -- a worker's view leaves its seat
 module _ (f : Sight → ℕ) where
-  taken : (ns : List Note) (j : ℕ) (u : Sight) → get_elem? ns j ≡ some (live_note u) → total f (flat (set ns j spent_note)) + f u ≡ total f (flat ns)
+  taken : (ns : List Note) (j : ℕ) (u : Sight) → get_elem? ns j ≡ some (live_note u) → sum_over f (flat (set ns j spent_note)) + f u ≡ sum_over f (flat ns)
   taken [] j u e = absurd (some-ne-none _ (sym e))
-  taken (n ∷ ns) zero u e = let same : n ≡ live_note u = some-injective n _ e in let q : total f (flat (n ∷ ns)) ≡ total f (u ∷ flat ns) = ap (λ m. total f (sights_of m ++ flat ns)) same in omega arith
-  taken (n ∷ ns) (suc j) u e = let a = total-append f (sights_of n) (flat ns) in let b = total-append f (sights_of n) (flat (set ns j spent_note)) in let c = taken ns j u e in omega arith
+  taken (n ∷ ns) zero u e = let same : n ≡ live_note u = some-injective n _ e in let q : sum_over f (flat (n ∷ ns)) ≡ sum_over f (u ∷ flat ns) = ap (λ m. sum_over f (sights_of m ++ flat ns)) same in omega arith
+  taken (n ∷ ns) (suc j) u e = let a = sum_over-append f (sights_of n) (flat ns) in let b = sum_over-append f (sights_of n) (flat (set ns j spent_note)) in let c = taken ns j u e in omega arith
 
 module _ (P : Sight → Type 0) where
   left_each : (ns : List Note) (j : ℕ) (u : Sight) → get_elem? ns j ≡ some (live_note u) → Each P (flat ns) → P u × Each P (flat (set ns j spent_note))
@@ -95,13 +95,13 @@ module _ (count made : ℕ) (joined : List Sight) (u : Sight) where
   abbrev more : Note
   more = root_note count made (joined ++ u ∷ [])
 
-  joined_total : (f : Sight → ℕ) (ns : List Note) (j : ℕ) → get_elem? ns j ≡ some (live_note u) → total f (flat (more ∷ set ns j spent_note)) ≡ total f (flat (root_note count made joined ∷ ns))
+  joined_total : (f : Sight → ℕ) (ns : List Note) (j : ℕ) → get_elem? ns j ≡ some (live_note u) → sum_over f (flat (more ∷ set ns j spent_note)) ≡ sum_over f (flat (root_note count made joined ∷ ns))
   joined_total f ns j e =
-      let a = total-append f ((joined ++ u ∷ []) ++ []) (flat (set ns j spent_note)) in
-      let b = total-append f (joined ++ []) (flat ns) in
-      let c = total-append f (joined ++ u ∷ []) [] in
-      let d = total-append f joined (u ∷ []) in
-      let g = total-append f joined [] in
+      let a = sum_over-append f ((joined ++ u ∷ []) ++ []) (flat (set ns j spent_note)) in
+      let b = sum_over-append f (joined ++ []) (flat ns) in
+      let c = sum_over-append f (joined ++ u ∷ []) [] in
+      let d = sum_over-append f joined (u ∷ []) in
+      let g = sum_over-append f joined [] in
       let t = taken f ns j u e in omega arith
 
   joined_each : (P : Sight → Type 0) (ns : List Note) (j : ℕ) → get_elem? ns j ≡ some (live_note u) → Each P (flat (root_note count made joined ∷ ns)) → Each P (flat (more ∷ set ns j spent_note))
@@ -134,7 +134,7 @@ merges count id made other joined u id_is s r at apart there =
     let made_is : r.made ≡ made = ap (λ (n : Note). n.made) e in
     let now : set (set s.views id b) other spent_note ≡ b ∷ set a.rest a.at spent_note = (λ i. set (set (a.views_are i) (id_is i) b) (a.other_is i) spent_note) in
     let was : flat s.views ≡ flat (root_note count made joined ∷ a.rest) = ap flat a.views_are in
-    let same : (f : Sight → ℕ) → total f (flat (set (set s.views id b) other spent_note)) ≡ total f (flat s.views) = (λ f. ap (λ l. total f (flat l)) now ∙ joined_total count made joined u f a.rest a.at a.there ∙ sym (ap (total f) was)) in
+    let same : (f : Sight → ℕ) → sum_over f (flat (set (set s.views id b) other spent_note)) ≡ sum_over f (flat s.views) = (λ f. ap (λ l. sum_over f (flat l)) now ∙ joined_total count made joined u f a.rest a.at a.there ∙ sym (ap (sum_over f) was)) in
     record {
       next = r.next;
       least = r.least;
@@ -149,7 +149,7 @@ merges count id made other joined u id_is s r at apart there =
       small = r.small;
     }
   where
-    lengths : (xs : List Sight) → total (λ v. 1) xs ≡ length xs
+    lengths : (xs : List Sight) → sum_over (λ v. 1) xs ≡ length xs
     lengths [] = refl
     lengths (x ∷ xs) = omega (arith, lengths xs)
 

@@ -21,8 +21,8 @@ use Rattle.ct_pool.specs.ClaimRule.{IsRuled}
 use Rattle.ct_pool.specs.Passes.{may_claim}
 use Rattle.ct_pool.proofs.Places.{stands, get_set, set_twice, root_stays, next_bound}
 use Rattle.ct_core.proofs.EachNumberOnce.{least_below}
-use Rattle.ct_core.proofs.Totals.{each_at, total-append, sum_below-times}
-use Rattle.ct_core.specs.Counting.{total, times, one_if, once_below}
+use Rattle.ct_core.proofs.Totals.{each_at, sum_over-append, sum_below-times}
+use Rattle.ct_core.specs.Counting.{sum_over, times, one_if, once_below}
 use Rattle.ct_core.specs.Kept.{list_of}
 use Rattle.ct_core.specs.Steps.{least_with}
 
@@ -66,7 +66,7 @@ word1 ws a b e = ap (λ l. slice_index l 1) e
 no_wrap : (n : ℕ) → n + 1 < 18446744073709551616 → (n + 1) % 2 ^ 64 ≡ n + 1
 no_wrap n h = grind arith
 
-at_total : {X : Type 0} (f : X → ℕ) (xs : List X) (k : ℕ) (v : X) → slice_get xs k ≡ Some v → f v ≤ total f xs
+at_total : {X : Type 0} (f : X → ℕ) (xs : List X) (k : ℕ) (v : X) → slice_get xs k ≡ Some v → f v ≤ sum_over f xs
 at_total f [] k v e = absurd (cc)
 at_total f (x ∷ xs) zero v e = let same : x ≡ v = cc in let s = ap f same in omega arith
 at_total f (x ∷ xs) (suc k) v e = omega (arith, at_total f xs k v e)
@@ -87,9 +87,9 @@ pending_below count next least views id v at kept = let t = stands views id v at
         let f = each_at (Fits count least) (flat views) k v here kept.fits in
         let c : v.claims ≡ v.refuted ++ p ∷ [] = f.claims_are ∙ ap (λ o. v.refuted ++ list_of o) is in
         let a = ap (times p) c in
-        let b = total-append (λ y. one_if (y == p)) v.refuted (p ∷ []) in
+        let b = sum_over-append (λ y. one_if (y == p)) v.refuted (p ∷ []) in
         let d = at_total (λ u. times p u.claims) (flat views) k v here in
-        let e : total (λ u. times p u.claims) (flat views) ≡ once_below p next = kept.claimed (λ y. one_if (y == p)) ∙ sum_below-times p next in
+        let e : sum_over (λ u. times p u.claims) (flat views) ≡ once_below p next = kept.claimed (λ y. one_if (y == p)) ∙ sum_below-times p next in
         let g = one p in is_below p next (omega arith)
 
 pub claims : {S : Type 0} (count slots id : ℕ) (v : Sight) → may_claim v v.pending ≡ true → Allows {S = S} {V = Note} (IsRuled count) slots id (live_note v, []) 0 (λ n. (n + 1) % 2 ^ 64) (λ n w. (w ≡ (live_note (claims_at v n), [])) × IfSome v.pending (λ p. p < n))

@@ -6,7 +6,7 @@
 --     Covers               each index below the bound is a miss of someone, and the least hit is someone's
 --     AreSlots, LeftEmpty  misses in the slots of their indices
 use Rattle.std.specs.Prelude.{◌≡◌, ℕ, ◌<◌, ◌≤◌, List, map, true, false, Option, Some, None, slice_get, ◌==◌, IfSome}
-use Rattle.ct_core.specs.Counting.{Each, total, times, one_if}
+use Rattle.ct_core.specs.Counting.{Each, sum_over, times, one_if}
 use Rattle.ct_core.specs.Steps.{some_and}
 use Rattle.ct_core.specs.Machine.{Sight}
 use Rattle.ct_core.specs.CompleteList.{has_ended}
@@ -68,7 +68,7 @@ bound_of count (Some m) = m
 
 -- each index below the bound is a miss of someone, and the least hit is someone's
 abbrev pub Covers : {M H : Type 0} → ℕ → Option ℕ → List (FoundValue M H) → Type 0
-Covers bound least fs = ((k : ℕ) → k < bound → 1 ≤ total (λ f. times k (numbers_of f.0)) fs) × IfSome least (λ m. 1 ≤ total (hits_of m) fs)
+Covers bound least fs = ((k : ℕ) → k < bound → 1 ≤ sum_over (λ f. times k (numbers_of f.0)) fs) × IfSome least (λ m. 1 ≤ sum_over (hits_of m) fs)
 
 -- what stands in a slot is the miss of its index
 abbrev pub AreSlots : {M H : Type 0} → (ℕ → Outcome M H) → List (Option M) → Type 0

@@ -9,7 +9,7 @@ use Rattle.std.specs.Prelude.{◌≡◌, ℕ, zero, suc, ◌+◌, ◌≤◌, ◌
 use Rattle.atomic_table.specs.Seated.{TableId}
 use Rattle.ct_core.specs.Machine.{Sight, fresh}
 use Rattle.ct_core.specs.Steps.{some_and, may_end}
-use Rattle.ct_core.specs.Counting.{total, times, once_below, Each}
+use Rattle.ct_core.specs.Counting.{sum_over, times, once_below, Each}
 use Rattle.ct_core.specs.CompleteList.{has_hit, has_ended, DecidedBy}
 use Rattle.ct_pool.specs.Notes.{claims_at, looks_at, least_of}
 
@@ -57,12 +57,12 @@ Looked v w answer = (n : ℕ) × (w ≡ looks_at v n) × (answer ≡ least_of n)
 -- the least hit of the views, or none where no view has one
 abbrev pub IsLeastHit : List Sight → Option ℕ → Type 0
 IsLeastHit views None = Each (λ v. v.hit ≡ None) views
-IsLeastHit views (Some m) = (1 ≤ total (has_hit m) views) × Each (λ v. IfSome v.hit (λ h. m ≤ h)) views
+IsLeastHit views (Some m) = (1 ≤ sum_over (has_hit m) views) × Each (λ v. IfSome v.hit (λ h. m ≤ h)) views
 
 -- what all passes know together
 pub record IsGathered (count next : ℕ) (least : Option ℕ) (views : List Sight) : Type 0 where
   -- each number below `next` stands once in the claims of one pass, and no other number stands there
-  pub claims : (x : ℕ) → total (λ v. times x v.claims) views ≡ once_below x next
+  pub claims : (x : ℕ) → sum_over (λ v. times x v.claims) views ≡ once_below x next
   -- at most one claim of each pass is at or past the count
   pub most : next ≤ count + length views
   pub least_hit : IsLeastHit views least

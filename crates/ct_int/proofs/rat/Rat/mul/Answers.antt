@@ -3,7 +3,7 @@ use Rattle.std.specs.Int.{w128}
 use Rattle.std.proofs.lemmas.Int.{to_z-of_z, unsigned_abs-mul}
 use Rattle.std.proofs.lemmas.Result.{err_from_is_err_and}
 use Rattle.ct_int.proofs.LowestTerms.{lowest-product, product-fits}
-use Rattle.ct_int.specs.Rational.{Ratio, ratio, IsCancelled, IsLowestTerms, product_of}
+use Rattle.ct_int.specs.Rational.{Ratio, ratio, IsCancelled, IsLowestTerms, product_of_ratios}
 use Rattle.ct_int.specs.Limits.{IsRational, largest_whole}
 use Rattle.ct_int.proofs.rat.Rat.mul.Goals as goal
 
@@ -16,7 +16,7 @@ crossed :
     n ≡ q.num →
     IsCancelled (ratio m (pos q.den)) s →
     IsCancelled (ratio n (pos p.den)) t →
-    IsLowestTerms (product_of p q) (ratio (s.num *ℤ t.num) (pos (t.den * s.den)))
+    IsLowestTerms (product_of_ratios p q) (ratio (s.num *ℤ t.num) (pos (t.den * s.den)))
 crossed p q s t m n first second mine its left right =
     lowest-product p q s t first.lowest second.lowest (subst (λ z. IsCancelled (ratio z (pos q.den)) s) mine left) (subst (λ z. IsCancelled (ratio z (pos p.den)) t) its right)
 
@@ -39,14 +39,14 @@ returns-in_err-den-clause-overflows c =
     rw (exit.1, exit.2, ← c.self.view_is, ← c.other.view_is)
     (c.in_err-den.ensures.0, record { terms = ratio (s.num *ℤ t.num) (pos (t.den * s.den)); lowest = terms; past = inr c.in_err-den.ensures.1 })
 
-reached : (c : goal.In_ok-den) → IsLowestTerms (product_of (ratio c.self.inside.num (pos c.self.inside.den)) (ratio c.other.inside.num (pos c.other.inside.den))) (ratio c.in_ok-num.num (pos c.in_ok-den.den))
+reached : (c : goal.In_ok-den) → IsLowestTerms (product_of_ratios (ratio c.self.inside.num (pos c.self.inside.den)) (ratio c.other.inside.num (pos c.other.inside.den))) (ratio c.in_ok-num.num (pos c.in_ok-den.den))
 reached c =
     let s = ratio c.cancelled-left.result.0 (pos c.cancelled-left.result.1) in
     let t = ratio c.cancelled-right.result.0 (pos c.cancelled-right.result.1) in
     let p = ratio c.self.inside.num (pos c.self.inside.den) in
     let q = ratio c.other.inside.num (pos c.other.inside.den) in
     let num = c.in_ok-num.ensures.0 ∙ ap₂ (λ m n. m *ℤ n) (to_z-of_z w128 s.num (search rules)) (to_z-of_z w128 t.num (search rules)) in
-    subst (λ r. IsLowestTerms (product_of p q) r) (ap₂ (λ n d. ratio n (pos d)) (sym num) (sym c.in_ok-den.ensures.0))
+    subst (λ r. IsLowestTerms (product_of_ratios p q) r) (ap₂ (λ n d. ratio n (pos d)) (sym num) (sym c.in_ok-den.ensures.0))
     (crossed p q s t _ _ c.self.invariant c.other.invariant (to_z-of_z w128 c.self.inside.num (search rules)) (to_z-of_z w128 c.other.inside.num (search rules)) c.cancelled-left.ensures c.cancelled-right.ensures)
 
 rational : (c : goal.In_ok-den) → IsRational (ratio c.in_ok-num.num (pos c.in_ok-den.den))
@@ -61,7 +61,7 @@ pub returns-clause-value : goal.returns-clause-value
 returns-clause-value c =
     let kept = to_z-of_z w128 c.in_ok-num.num (search rules) in
     rw (← c.self.view_is, ← c.other.view_is)
-    (subst (λ n. IsLowestTerms (product_of (ratio c.self.inside.num (pos c.self.inside.den)) (ratio c.other.inside.num (pos c.other.inside.den))) (ratio n (pos c.in_ok-den.den))) (sym kept) (reached c))
+    (subst (λ n. IsLowestTerms (product_of_ratios (ratio c.self.inside.num (pos c.self.inside.den)) (ratio c.other.inside.num (pos c.other.inside.den))) (ratio n (pos c.in_ok-den.den))) (sym kept) (reached c))
 
 pub returns-clause-overflows : goal.returns-clause-overflows
 returns-clause-overflows c =
