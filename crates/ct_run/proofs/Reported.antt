@@ -1,10 +1,11 @@
 -- A run that reports the output for what it read answers its source. Main lemmas `Answered-front` and `Answered-unwritten`, at the
--- end, which the proof of `answer_text` cites.
+-- end, which the proof of `answer_text` cites, with `takes_known`.
 -- The output for the first bytes of a text is that for the text: past the limit it is refused by its length, and within it nothing is cut.
 use Rattle.std.proofs.Common.{◌≡◌, ◌<◌, ◌+◌, Err, ap, sym, ◌∙◌, arith, true, inl, inr, lt-ltb, nat_lt, List, [], ℕ, length, take, Option, Some, None, IfSome, subst, refl}
 use Rattle.std.proofs.lemmas.Bool.{cases_lt}
 use Rattle.std.proofs.lemmas.List.{length-take, take_all}
 use Rattle.ct_io.specs.declared.command.Command.{Command}
+use Rattle.ct_io.specs.Taking.{TakesAtMost}
 use Rattle.ct_problem.specs.Limits.{most_bytes}
 use Rattle.ct_problem.specs.ReadProblem.{problem_of, too_long}
 use Rattle.ct_run.specs.Output.{Output}
@@ -59,6 +60,11 @@ ended command bytes status before after = by status
     by statuses.ReadFault reported = tt
     by statuses.WriteFault reported = tt
     by statuses.NoMemory reported = tt
+
+-- what was taken of a source that tells its bytes
+pub takes_known : (told left : Option (List ℕ)) (most : ℕ) → TakesAtMost most told left → IfSome told (λ bytes. TakesAtMost most (Some bytes) left)
+takes_known None left most takes = tt
+takes_known (Some bytes) left most takes = takes
 
 -- what reports the output for what was read answers the source
 pub Answered-front :

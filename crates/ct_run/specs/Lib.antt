@@ -11,4 +11,5 @@ pub mod Fractions
 pub mod Out
 pub mod Run
 pub use Rattle.ct_io.specs.Faults
+pub use Rattle.ct_io.specs.Taking
 pub use Rattle.ct_io.specs.Memory

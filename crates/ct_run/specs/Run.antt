@@ -4,7 +4,8 @@
 --     IsTold told bytes                    the bytes of a source that tells its own; of one that tells none, any
 --     Answered command told status before after     a run of this command reported its output for some text, and ended
 --                                          as that text asks; where the source tells its bytes, they are the text
---     LeavesAfter bytes status left        a run over these bytes that ended so left these
+--     LeavesAfter bytes status left        a run over these bytes that ended so left these: what is past the limit, and no less
+--                                          where a read or the memory failed
 --     TellsFault status fault before now   a fault was counted just where the status is this fault's
 -- A sink that fails has taken a prefix of the text. A run that is out of memory has written nothing.
 -- `run` cites it.
@@ -13,6 +14,7 @@ use Rattle.std.specs.Io.{StartsWith}
 use Rattle.std.specs.Io.KnownBytes.{Appends, Keeps}
 use Rattle.ct_io.specs.declared.command.Command.{Command}
 use Rattle.ct_io.specs.Faults.{Tells}
+use Rattle.ct_io.specs.Taking.{TakesAtMost}
 use Rattle.ct_run.specs.Output.{Output}
 use Rattle.ct_run.specs.Out.{largest_text, out, Means}
 use Rattle.ct_run.specs.Status.{status_of, outcome_of}
@@ -39,10 +41,10 @@ pub record Answered (command : Command) (told : Option (List ℕ)) (status : Sta
   pub report : Reports (out command bytes) status before after
   pub certified : IfSome (outcome_of status) (Means command bytes)
 
--- a run that read these bytes and ended with this status left what is past the limit
+-- a run that read these bytes and ended with this status left what is past the limit; one that failed took no more than that
 abbrev pub LeavesAfter : List ℕ → Status → Option (List ℕ) → Type 0
-LeavesAfter bytes ReadFault left = Unit {0}
-LeavesAfter bytes NoMemory left = Unit {0}
+LeavesAfter bytes ReadFault left = TakesAtMost (largest_text + 1) (Some bytes) left
+LeavesAfter bytes NoMemory left = TakesAtMost (largest_text + 1) (Some bytes) left
 LeavesAfter bytes status left = Keeps (Some (drop (largest_text + 1) bytes)) left
 
 -- the status is this fault's only where a fault was counted, and none was where it is another
