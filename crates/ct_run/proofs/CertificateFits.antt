@@ -1,47 +1,18 @@
 -- What a report on an algebra's names stands for fits them: a summand for each summed name, a cofactor for each generator.
 -- Main lemmas `certificate_fits` and `setup_length`, cited by `answer_form` and by what a yes means. By the steps that fit.
-use Rattle.std.proofs.Common.{◌≡◌, refl, ℕ, ◌+◌, List, [], ◌∷◌, ◌++◌, map, length, Ok, sym, ◌∙◌, ap, arith, length-append}
+use Rattle.std.proofs.Common.{◌≡◌, refl, ℕ, List, [], ◌∷◌, map, length, Ok, sym, ◌∙◌, ap, arith}
 use Rattle.ct_algebra.specs.Names.{Name}
-use Rattle.ct_algebra.specs.Actions.{Action}
 use Rattle.ct_algebra.specs.Operators.{Operator}
 use Rattle.ct_algebra.specs.Polynomial.{Polynomial}
 use Rattle.ct_algebra.specs.Certificate.{Certificate}
-use Rattle.ct_mono.specs.Checked.{both_fit, ◌>>=◌}
 use Rattle.ct_ore.specs.Naming.{Naming, actions_of, summed_of}
-use Rattle.ct_expr.specs.declared.expr.Expr.{Expr}
-use Rattle.ct_problem.specs.declared.report.Quotient.{Quotient}
 use Rattle.ct_problem.specs.declared.report.Report.{Report}
 use Rattle.ct_problem.specs.ReadProblem.{Reading}
 use Rattle.ct_expr.specs.Value.{value_of, checked_polynomial}
 use Rattle.ct_problem.specs.WellFormed.{IsReportOn}
 use Rattle.ct_run.specs.Setup.{listed, checked_values, checked_setup}
-use Rattle.ct_run.specs.Checking.{checked_polynomials, checked_quotients, checked_certificate, summands_of}
-
-module _ (a : Name → Action) where
-  values_length :
-      (done : List Operator) (xs : List Expr) (vs : List Operator) → checked_values a done xs ≡ Ok vs →
-      length vs ≡ length done + length xs
-  values_length done [] vs fits = let same : done ≡ vs = cc in omega (arith, ap length same)
-  values_length done (x ∷ xs) vs fits =
-      let one = both_fit (value_of a x) (λ v. checked_values a (done ++ v ∷ []) xs) vs fits in
-      omega (arith, values_length (done ++ one.value ∷ []) xs vs one.rest, length-append done (one.value ∷ []))
-
-  polynomials_length :
-      (done : List Polynomial) (xs : List Expr) (vs : List Polynomial) → checked_polynomials a done xs ≡ Ok vs →
-      length vs ≡ length done + length xs
-  polynomials_length done [] vs fits = let same : done ≡ vs = cc in omega (arith, ap length same)
-  polynomials_length done (x ∷ xs) vs fits =
-      let one = both_fit (checked_polynomial a x) (λ v. checked_polynomials a (done ++ v ∷ []) xs) vs fits in
-      omega (arith, polynomials_length (done ++ one.value ∷ []) xs vs one.rest, length-append done (one.value ∷ []))
-
-  quotients_length :
-      (done : List (Operator × Polynomial)) (qs : List Quotient) (vs : List (Operator × Polynomial)) →
-      checked_quotients a done qs ≡ Ok vs → length vs ≡ length done + length qs
-  quotients_length done [] vs fits = let same : done ≡ vs = cc in omega (arith, ap length same)
-  quotients_length done (q ∷ qs) vs fits =
-      let one = both_fit (value_of a q.numerator) (λ n. checked_polynomial a q.denominator >>= (λ d. checked_quotients a (done ++ (n, d) ∷ []) qs)) vs fits in
-      let two = both_fit (checked_polynomial a q.denominator) (λ d. checked_quotients a (done ++ (one.value, d) ∷ []) qs) vs one.rest in
-      omega (arith, quotients_length (done ++ (one.value, two.value) ∷ []) qs vs two.rest, length-append done ((one.value, two.value) ∷ []))
+use Rattle.ct_run.specs.Checking.{checked_polynomials, checked_quotient, checked_quotients, checked_certificate, summands_of}
+use Rattle.ct_run.proofs.Traversals.{both_pass, each_length}
 
 summands_of-names :
     (js : List Name) (qs : List (Operator × Polynomial)) (fs : List Polynomial) → length qs ≡ length js →
@@ -62,11 +33,11 @@ pub certificate_fits :
 unfolding checked_certificate
 certificate_fits names generators r c on fits =
     let a = actions_of names in
-    let telescoper = both_fit (value_of a r.telescoper) _ c fits in
-    let quotients = both_fit (checked_quotients a [] r.quotients) _ c telescoper.rest in
-    let scale = both_fit (checked_polynomial a r.scale) _ c quotients.rest in
-    let factors = both_fit (checked_polynomials a [] r.factors) _ c scale.rest in
-    let cofactors = both_fit (checked_values a [] r.cofactors) _ c factors.rest in
+    let telescoper = both_pass (value_of a r.telescoper) _ c fits in
+    let quotients = both_pass (checked_quotients a r.quotients) _ c telescoper.rest in
+    let scale = both_pass (checked_polynomial a r.scale) _ c quotients.rest in
+    let factors = both_pass (checked_polynomials a r.factors) _ c scale.rest in
+    let cofactors = both_pass (checked_values a r.cofactors) _ c factors.rest in
     let whole : record {
       telescoper = telescoper.value;
       scale = scale.value;
@@ -77,9 +48,9 @@ certificate_fits names generators r c on fits =
       names_are =
           ap (λ (d : Certificate). map (λ s. s.name) d.summands) (sym whole)
           ∙ summands_of-names (summed_of names) quotients.value factors.value
-          (omega (arith, quotients_length a [] r.quotients quotients.value quotients.first, on.each_quotient))
-          (omega (arith, polynomials_length a [] r.factors factors.value factors.first, on.each_factor));
-      cofactors = omega (arith, ap (λ (d : Certificate). length d.cofactors) whole, values_length a [] r.cofactors cofactors.value cofactors.first, on.each_cofactor);
+          (omega (arith, each_length 1 (λ _ q. checked_quotient a q) r.quotients quotients.value quotients.first, on.each_quotient))
+          (omega (arith, each_length 1 (λ _ x. checked_polynomial a x) r.factors factors.value factors.first, on.each_factor));
+      cofactors = omega (arith, ap (λ (d : Certificate). length d.cofactors) whole, each_length 1 (λ _ x. value_of a x) r.cofactors cofactors.value cofactors.first, on.each_cofactor);
     }
 
 -- a generator for each `gen` line
@@ -87,7 +58,7 @@ pub setup_length : (p : Reading) (generators : List Operator) → checked_setup 
 unfolding checked_setup
 setup_length p generators fits =
     let a = actions_of p.variables in
-    let listed_values = both_fit (checked_values a [] (listed p.generators)) _ generators fits in
-    let targets = both_fit (checked_values a [] p.targets) _ generators listed_values.rest in
+    let listed_values = both_pass (checked_values a (listed p.generators)) _ generators fits in
+    let targets = both_pass (checked_values a p.targets) _ generators listed_values.rest in
     let same : listed_values.value ≡ generators = cc in
-    omega (arith, values_length a [] (listed p.generators) listed_values.value listed_values.first, ap length same)
+    omega (arith, each_length 1 (λ _ x. value_of a x) (listed p.generators) listed_values.value listed_values.first, ap length same)

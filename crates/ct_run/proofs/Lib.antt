@@ -1,5 +1,6 @@
 mod Reported
 mod Parts
+mod Traversals
 mod CertificateFits
 mod NoLets
 mod ReducedTexts

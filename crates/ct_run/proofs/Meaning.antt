@@ -1,7 +1,7 @@
 -- What an output means by its outcome. Main lemma `means_of`, at the end, which what a run reported stands on.
 -- Under `check` only a text in the first form is done or answered by a no: tests that pass certify, and the test that fails is of a
 -- place where what it asks is false. Under `reduce` only the reductions of all targets are done.
-use Rattle.std.proofs.Common.{◌≡◌, refl, ℕ, ◌+◌, ◌≤◌, List, [], length, Option, Some, None, Result, Ok, Err, Bool, true, false, if◌then◌else◌, arith}
+use Rattle.std.proofs.Common.{◌≡◌, refl, ℕ, ◌+◌, ◌≤◌, List, length, Option, Some, None, Result, Ok, Err, Bool, true, false, if◌then◌else◌, arith}
 use Rattle.ct_algebra.specs.Operators.{Operator}
 use Rattle.ct_algebra.specs.Certificate.{Certificate}
 use Rattle.ct_mono.specs.Checked.{Checked}
@@ -61,7 +61,9 @@ module _ (bytes : List ℕ) where
       on : IsReportOn p.variables (length (listed p.generators)) r
       on = report_is p.variables names.few (length (listed p.generators)) bytes end r reported
 
-      module _ (generators : List Operator) (c : Certificate) (valued : checked_setup p ≡ Ok generators) (stated : checked_certificate p.variables r ≡ Ok c) where
+      module _
+          (generators : List Operator) (c : Certificate) (valued : checked_setup p ≡ Ok generators)
+          (stated : checked_certificate p.variables r ≡ Ok c) where
         statement : Statement bytes
         statement = record {
           problem = p;
@@ -75,14 +77,18 @@ module _ (bytes : List ℕ) where
           stated = stated;
         }
 
-        by_tests : (t : Tested (Unit {0})) → tests (actions_of p.variables) (summed_of p.variables) generators (due_of p) (found_of r) c ≡ t → Checks (verdict_line p.variables t)
+        by_tests :
+            (t : Tested (Unit {0})) → tests (actions_of p.variables) (summed_of p.variables) generators (due_of p) (found_of r) c ≡ t →
+            Checks (verdict_line p.variables t)
         unfolding statement no_line overflow_in_test
         by_tests (Ok passed) passes =
             let fits = certificate_fits p.variables (length (listed p.generators)) r c on stated in
             let many = setup_length p generators valued in
             record {
               statement = statement;
-              certified = passing_certifies (actions_of p.variables) (summed_of p.variables) generators (due_of p) (found_of r) c passed passes fits.names_are (summed_act p.variables names.few names.each) (omega (arith, fits.cofactors, many));
+              certified =
+                  passing_certifies (actions_of p.variables) (summed_of p.variables) generators (due_of p) (found_of r) c passed passes
+                  fits.names_are (summed_act p.variables names.few names.each) (omega (arith, fits.cofactors, many));
             }
         by_tests (Err (Fails place)) fails = record {
           statement = statement;
@@ -92,7 +98,9 @@ module _ (bytes : List ℕ) where
         }
         by_tests (Err (Overflows place kind)) fails = tt
 
-      by_stated : (generators : List Operator) (o : Checked Certificate) → checked_setup p ≡ Ok generators → checked_certificate p.variables r ≡ o → Checks (by_certificate p r generators o)
+      by_stated :
+          (generators : List Operator) (o : Checked Certificate) → checked_setup p ≡ Ok generators → checked_certificate p.variables r ≡ o →
+          Checks (by_certificate p r generators o)
       unfolding tested overflow_in_report
       by_stated generators (Ok c) valued stated = by_tests generators c valued stated _ refl
       by_stated generators (Err kind) valued stated = tt
@@ -127,7 +135,8 @@ module _ (bytes : List ℕ) where
 
   module _ (p : Reading) (end : ℕ) (read : problem_of Reduce bytes ≡ Ok (p, end)) where
     by_targets :
-        (s : Plain) → plain_setup p ≡ Ok s → (o : Result (List Reduction) TargetOverflow) → checked_reductions (actions_of p.variables) s.generators [] s.targets ≡ o →
+        (s : Plain) → plain_setup p ≡ Ok s → (o : Result (List Reduction) TargetOverflow) →
+        checked_reductions (actions_of p.variables) s.generators s.targets ≡ o →
         Reduces (by_reductions p.variables o)
     unfolding overflow_in_reduction
     by_targets s valued (Ok rs) fits = record {
@@ -144,7 +153,7 @@ module _ (bytes : List ℕ) where
 
     by_plain : (o : Result Plain Refusal) → plain_setup p ≡ o → Reduces (by_setup p o)
     unfolding zero_generator overflow_in_setup
-    by_plain (Ok s) valued = by_targets s valued (checked_reductions (actions_of p.variables) s.generators [] s.targets) refl
+    by_plain (Ok s) valued = by_targets s valued (checked_reductions (actions_of p.variables) s.generators s.targets) refl
     by_plain (Err (ZeroGenerator place)) valued = tt
     by_plain (Err (Overflow kind)) valued = tt
 

@@ -1,34 +1,39 @@
 -- What a text of reductions means. Main lemma `reductions_mean`, which what a run means stands on.
-use Rattle.std.proofs.Common.{◌≡◌, refl, sym, subst, ◌∙◌, List, [], ◌∷◌, ◌++◌, Ok, Err}
-use Rattle.std.proofs.lemmas.List.{append_assoc, append-nil}
+use Rattle.std.proofs.Common.{◌≡◌, refl, subst, ℕ, ◌+◌, List, [], ◌∷◌, Ok, Err}
 use Rattle.ct_algebra.specs.Names.{Name}
 use Rattle.ct_algebra.specs.Actions.{Action}
 use Rattle.ct_algebra.specs.Operators.{Operator}
 use Rattle.ct_mono.specs.Checked.{Checked}
-use Rattle.ct_reduce.specs.Membership.{Reduction}
+use Rattle.ct_reduce.specs.Membership.{Reduction, ReducesTo, IsReduced}
 use Rattle.ct_reduce.specs.Reduction.{checked_reduction}
 use Rattle.ct_reduce.proofs.ReductionMeans.{reduction_means}
-use Rattle.ct_run.specs.Reducing.{checked_reductions, with_reduction, EachReduces}
-
--- the reductions behind those that are done
-record Behind (a : Name → Action) (generators : List Operator) (done : List Reduction) (xs : List Operator) (rs : List Reduction) : Type 0 where
-  more : List Reduction
-  parts : rs ≡ done ++ more
-  each : EachReduces a generators xs more
+use Rattle.ct_run.specs.Reducing.{TargetOverflow, checked_reductions, target_reduction, EachReduces}
+use Rattle.ct_run.specs.Traversal.{each_from, refused_as}
+use Rattle.ct_run.proofs.Traversals.{both_pass}
 
 module _ (a : Name → Action) (generators : List Operator) where
-  behind : (done : List Reduction) (xs : List Operator) (rs : List Reduction) → checked_reductions a generators done xs ≡ Ok rs → Behind a generators done xs rs
-  behind done [] rs fits = let same : done ≡ rs = cc in record { more = []; parts = sym same ∙ sym (append-nil done); each = tt }
-  behind done (x ∷ xs) rs fits = by (checked_reduction a generators x) refl fits (λ r. behind (done ++ r ∷ []) xs rs)
+  reduces :
+      (n : ℕ) (x : Operator) (r : Reduction) → target_reduction a generators n x ≡ Ok r →
+      ReducesTo a generators x r × IsReduced generators r.rest
+  reduces n x r fits = by (checked_reduction a generators x) refl fits
     where
       by :
-          (c : Checked Reduction) → checked_reduction a generators x ≡ c → with_reduction done c (λ more. checked_reductions a generators more xs) ≡ Ok rs →
-          ((r : Reduction) → checked_reductions a generators (done ++ r ∷ []) xs ≡ Ok rs → Behind a generators (done ++ r ∷ []) xs rs) →
-          Behind a generators done (x ∷ xs) rs
-      by (Ok r) is fits next =
-          let b = next r fits in
-          record { more = r ∷ b.more; parts = b.parts ∙ append_assoc done (r ∷ []) b.more; each = (reduction_means a generators x r is, b.each) }
-      by (Err kind) is fits next = cc
+          (c : Checked Reduction) → checked_reduction a generators x ≡ c → refused_as {F = TargetOverflow} (λ kind. (n, kind)) c ≡ Ok r →
+          ReducesTo a generators x r × IsReduced generators r.rest
+      by (Ok s) is fits =
+          let same : s ≡ r = cc in
+          subst (λ t. ReducesTo a generators x t × IsReduced generators t.rest) same (reduction_means a generators x s is)
+      by (Err kind) is fits = cc
 
-  pub reductions_mean : (xs : List Operator) (rs : List Reduction) → checked_reductions a generators [] xs ≡ Ok rs → EachReduces a generators xs rs
-  reductions_mean xs rs fits = let b = behind [] xs rs fits in subst (EachReduces a generators xs) (sym b.parts) b.each
+  each_reduces :
+      (n : ℕ) (xs : List Operator) (rs : List Reduction) → each_from n (target_reduction a generators) xs ≡ Ok rs →
+      EachReduces a generators xs rs
+  each_reduces n [] rs fits = let same : [] ≡ rs = cc in subst (EachReduces a generators []) same tt
+  each_reduces n (x ∷ xs) rs fits =
+      let one = both_pass (target_reduction a generators n x) _ rs fits in
+      let more = both_pass (each_from (n + 1) (target_reduction a generators) xs) _ rs one.rest in
+      let same : one.value ∷ more.value ≡ rs = cc in
+      subst (EachReduces a generators (x ∷ xs)) same (reduces n x one.value one.first, each_reduces (n + 1) xs more.value more.first)
+
+  pub reductions_mean : (xs : List Operator) (rs : List Reduction) → checked_reductions a generators xs ≡ Ok rs → EachReduces a generators xs rs
+  reductions_mean xs rs fits = each_reduces 1 xs rs fits

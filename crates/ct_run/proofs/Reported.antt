@@ -41,7 +41,9 @@ outcome_of-status outcome.Usage = refl
 outcome_of-status outcome.CheckNo = refl
 
 -- a run that reported an output ended as this output means
-ended : (command : Command) (bytes : List ℕ) (status : Status) (before after : Option (List ℕ)) → Reports (out command bytes) status before after → IfSome (outcome_of status) (Means command bytes)
+ended :
+    (command : Command) (bytes : List ℕ) (status : Status) (before after : Option (List ℕ)) →
+    Reports (out command bytes) status before after → IfSome (outcome_of status) (Means command bytes)
 ended command bytes status before after = by status
   where
     meant : (s : Status) (o : Outcome) → outcome_of s ≡ Some o → s ≡ status_of (out command bytes).outcome → Means command bytes o
@@ -90,4 +92,6 @@ Answered-unwritten command told taken status unwritten = by told
   where
     by : (told : Option (List ℕ)) → Answered command told status taken taken
     by None = Answered-front command None taken taken [] (out command []) status tt refl (unwritten (out command []))
-    by (Some bytes) = Answered-front command (Some bytes) taken taken (take (largest_text + 1) bytes) (out command (take (largest_text + 1) bytes)) status refl refl (unwritten (out command (take (largest_text + 1) bytes)))
+    by (Some bytes) =
+        let front = take (largest_text + 1) bytes in
+        Answered-front command (Some bytes) taken taken front (out command front) status refl refl (unwritten (out command front))

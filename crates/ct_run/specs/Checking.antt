@@ -9,14 +9,14 @@
 --     IsShown bytes                   what a yes means
 --     IsRefuted bytes text            what a no means
 --     CheckMeans bytes outcome text   what an outcome with this text means
-use Rattle.std.specs.Prelude.{◌≡◌, ◌==◌, Bool, false, not, ◌&&◌, if◌then◌else◌, is_none, Ok, Err, Option, Some, None, List, [], ◌∷◌, ◌++◌, length, ℕ}
+use Rattle.std.specs.Prelude.{◌≡◌, ◌==◌, Bool, false, not, ◌&&◌, if◌then◌else◌, is_none, Ok, Err, Option, Some, None, List, [], ◌∷◌, length, ℕ}
 use Rattle.std.specs.List.{list_all}
 use Rattle.ct_algebra.specs.Names.{Name}
 use Rattle.ct_algebra.specs.Polynomial.{Polynomial}
 use Rattle.ct_algebra.specs.Actions.{Action}
 use Rattle.ct_algebra.specs.Operators.{Operator}
 use Rattle.ct_algebra.specs.Certificate.{Summand, Certificate, Certifies}
-use Rattle.ct_mono.specs.Checked.{Checked, ◌>>=◌}
+use Rattle.ct_mono.specs.Checked.{Checked}
 use Rattle.ct_ore.specs.Naming.{Naming, actions_of, summed_of}
 use Rattle.ct_expr.specs.declared.expr.Expr.{Expr}
 use Rattle.ct_problem.specs.declared.problem.Range.{Range}
@@ -37,23 +37,23 @@ use Rattle.ct_io.specs.declared.command.Command.TheVariants.{Check}
 use Rattle.ct_run.specs.Lines.{not_yet, overflow_in_setup, overflow_in_report, no_line, verdict_line}
 pub use Rattle.ct_run.specs.Setup.{listed}
 use Rattle.ct_run.specs.Setup.{checked_values, checked_setup}
+use Rattle.ct_run.specs.Traversal.{◌>>=◌, each_ok}
 
 -- ---- the values of a report's expressions
 
 module _ (a : Name → Action) where
-  abbrev pub checked_polynomials : List Polynomial → List Expr → Checked (List Polynomial)
-  checked_polynomials done [] = Ok done
-  checked_polynomials done (x ∷ xs) = do
-    value ← checked_polynomial a x
-    checked_polynomials (done ++ value ∷ []) xs
+  abbrev pub checked_polynomials : List Expr → Checked (List Polynomial)
+  checked_polynomials xs = each_ok (checked_polynomial a) xs
 
-  -- numerator and denominator of each summed name
-  abbrev pub checked_quotients : List (Operator × Polynomial) → List Quotient → Checked (List (Operator × Polynomial))
-  checked_quotients done [] = Ok done
-  checked_quotients done (q ∷ qs) = do
+  -- numerator and denominator of a summed name
+  abbrev pub checked_quotient : Quotient → Checked (Operator × Polynomial)
+  checked_quotient q = do
     numerator ← value_of a q.numerator
     denominator ← checked_polynomial a q.denominator
-    checked_quotients (done ++ (numerator, denominator) ∷ []) qs
+    Ok (numerator, denominator)
+
+  abbrev pub checked_quotients : List Quotient → Checked (List (Operator × Polynomial))
+  checked_quotients qs = each_ok checked_quotient qs
 
 -- name by name
 abbrev pub summands_of : List Name → List (Operator × Polynomial) → List Polynomial → List Summand
@@ -64,10 +64,10 @@ summands_of _ _ _ = []
 unfoldable pub checked_certificate : List Naming → Report → Checked Certificate
 checked_certificate names r = do
   telescoper ← value_of (actions_of names) r.telescoper
-  quotients ← checked_quotients (actions_of names) [] r.quotients
+  quotients ← checked_quotients (actions_of names) r.quotients
   scale ← checked_polynomial (actions_of names) r.scale
-  factors ← checked_polynomials (actions_of names) [] r.factors
-  cofactors ← checked_values (actions_of names) [] r.cofactors
+  factors ← checked_polynomials (actions_of names) r.factors
+  cofactors ← checked_values (actions_of names) r.cofactors
   Ok (record {
     telescoper = telescoper;
     scale = scale;
@@ -137,12 +137,14 @@ pub record Statement (bytes : List ℕ) : Type 0 where
 -- the report's certificate certifies its telescoper over the problem's generators
 pub record IsShown (bytes : List ℕ) : Type 0 where
   pub statement : Statement bytes
-  pub certified : Certifies (actions_of statement.problem.variables) (summed_of statement.problem.variables) statement.generators statement.certificate
+  pub certified :
+      Certifies (actions_of statement.problem.variables) (summed_of statement.problem.variables) statement.generators statement.certificate
 
 module _ {bytes : List ℕ} (s : Statement bytes) where
   -- what the test of this place asks is true
   abbrev pub HoldsAt : Place → Type 0
-  HoldsAt = Holds (actions_of s.problem.variables) (summed_of s.problem.variables) s.generators (due_of s.problem) (found_of s.report) s.certificate
+  HoldsAt =
+      Holds (actions_of s.problem.variables) (summed_of s.problem.variables) s.generators (due_of s.problem) (found_of s.report) s.certificate
 
 -- what the test of some place asks is false, and the text is the line of that place
 pub record IsRefuted (bytes : List ℕ) (text : List ℕ) : Type 0 where

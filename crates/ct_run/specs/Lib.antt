@@ -2,6 +2,7 @@ pub mod Status
 pub mod Words
 pub mod Output
 pub mod Lines
+pub mod Traversal
 pub mod Setup
 pub mod Refusals
 pub mod Checking

@@ -1,16 +1,15 @@
 -- The output of `reduce`: the left reduction of each target by the generators.
---     checked_reductions a gs done xs    the reductions of operators in order, or the number of the first that overflows
+--     checked_reductions a gs xs         the reductions of operators in order, or the number of the first that overflows
 --     reduced_text names rs              the reductions as text, the targets and the cofactors counted from 1
 --     reduced p                          the outcome and the text for a problem
 -- Above it:
 --     AreReduced bytes text              what a text of reductions means
 --     ReduceMeans bytes outcome text     what an outcome with this text means
-use Rattle.std.specs.Prelude.{◌≡◌, ℕ, ◌+◌, List, [], ◌∷◌, ◌++◌, length, codes, decimal, Result, Ok, Err}
+use Rattle.std.specs.Prelude.{◌≡◌, ℕ, ◌+◌, List, [], ◌∷◌, ◌++◌, codes, decimal, Result, Ok, Err}
 use Rattle.ct_algebra.specs.Names.{Name}
 use Rattle.ct_algebra.specs.Actions.{Action}
 use Rattle.ct_algebra.specs.Operators.{Operator}
 use Rattle.ct_io.specs.declared.command.Command.TheVariants.{Reduce}
-use Rattle.ct_mono.specs.Checked.{Checked}
 use Rattle.ct_mono.specs.declared.fault.Kind.{Kind}
 use Rattle.ct_ore.specs.Naming.{Naming, actions_of}
 use Rattle.ct_reduce.specs.Membership.{Reduction, ReducesTo, IsReduced}
@@ -22,6 +21,7 @@ use Rattle.ct_run.specs.declared.status.Outcome as outcomes
 use Rattle.ct_run.specs.declared.status.Outcome.TheVariants as outcome
 use Rattle.ct_run.specs.Lines.{line_of, overflow_in_setup, overflow_in_reduction, zero_generator}
 use Rattle.ct_run.specs.Output.{Output}
+use Rattle.ct_run.specs.Traversal.{each_from, refused_as}
 use Rattle.ct_run.specs.Setup.{Plain, Refusal, ZeroGenerator, Overflow, plain_setup}
 
 -- ---- the reductions
@@ -30,14 +30,12 @@ use Rattle.ct_run.specs.Setup.{Plain, Refusal, ZeroGenerator, Overflow, plain_se
 abbrev pub TargetOverflow : Type 0
 TargetOverflow = ℕ × Kind
 
-abbrev pub with_reduction : List Reduction → Checked Reduction → (List Reduction → Result (List Reduction) TargetOverflow) → Result (List Reduction) TargetOverflow
-with_reduction done (Ok r) more = more (done ++ r ∷ [])
-with_reduction done (Err kind) more = Err (length done + 1, kind)
+-- the reduction of the target with this number
+abbrev pub target_reduction : (Name → Action) → List Operator → ℕ → Operator → Result Reduction TargetOverflow
+target_reduction a generators place x = refused_as (λ kind. (place, kind)) (checked_reduction a generators x)
 
-abbrev pub checked_reductions : (Name → Action) → List Operator → List Reduction → List Operator → Result (List Reduction) TargetOverflow
-checked_reductions a generators done [] = Ok done
-checked_reductions a generators done (x ∷ xs) =
-    with_reduction done (checked_reduction a generators x) (λ more. checked_reductions a generators more xs)
+abbrev pub checked_reductions : (Name → Action) → List Operator → List Operator → Result (List Reduction) TargetOverflow
+checked_reductions a generators xs = each_from 1 (target_reduction a generators) xs
 
 -- ---- their text
 
@@ -68,7 +66,7 @@ by_reductions names (Ok rs) = record { outcome = outcome.Done; text = reduced_te
 by_reductions names (Err e) = overflow_in_reduction e.0 e.1
 
 abbrev pub by_setup : Reading → Result Plain Refusal → Output
-by_setup p (Ok s) = by_reductions p.variables (checked_reductions (actions_of p.variables) s.generators [] s.targets)
+by_setup p (Ok s) = by_reductions p.variables (checked_reductions (actions_of p.variables) s.generators s.targets)
 by_setup p (Err (ZeroGenerator place)) = zero_generator place
 by_setup p (Err (Overflow kind)) = overflow_in_setup kind
 

@@ -36,7 +36,7 @@ pub(crate) fn answer_reduce(alloc: Global, problem: &Problem) -> Result<Output, 
 
 /// The reductions of the targets as text, or the first that overflows.
 fn answer_plain(alloc: Global, algebra: &Algebra, plain: &Plain) -> Result<Output, NoMemory>
-    ensures value { IfOk result (λ output. output_of output ≡ spec.by_reductions algebra.now (spec.checked_reductions (actions_of algebra.now) plain.now.generators.items [] plain.now.targets.items)) }
+    ensures value { IfOk result (λ output. output_of output ≡ spec.by_reductions algebra.now (spec.checked_reductions (actions_of algebra.now) plain.now.generators.items plain.now.targets.items)) }
 {
     let generators = plain.generators.as_slice();
     match reductions(alloc, algebra, generators, plain.targets.as_slice()) {

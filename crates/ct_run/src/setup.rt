@@ -79,7 +79,7 @@ pub(crate) fn plain_setup(alloc: Global, problem: &Problem) -> Result<Plain, Ref
 
 fn plain_generators(alloc: Global, algebra: &Algebra, exprs: &[Expr]) -> Result<Vec<Op>, Refusal>
     requires { Each (IsOperator algebra.now) exprs.now }
-    ensures { Refuses (λ v. v.items) (spec.plain_generators (actions_of algebra.now) [] exprs.now) result }
+    ensures { Refuses (λ v. v.items) (spec.plain_generators (actions_of algebra.now) exprs.now) result }
 {
     let mut done = Vec::new(alloc);
     let mut rest = exprs;

@@ -26,7 +26,7 @@ pub(crate) struct Fraction {
 /// The values of expressions, in order.
 pub(crate) fn values(alloc: Global, algebra: &Algebra, exprs: &[Expr]) -> Result<Vec<Op>, Fault>
     requires { Each (IsOperator algebra.now) exprs.now }
-    ensures { AnswersBy (λ v. v.items) (setup.checked_values (actions_of algebra.now) [] exprs.now) result }
+    ensures { AnswersBy (λ v. v.items) (setup.checked_values (actions_of algebra.now) exprs.now) result }
 {
     let mut done = Vec::new(alloc);
     let mut rest = exprs;
@@ -68,7 +68,7 @@ pub(crate) fn certificate(
 
 fn polynomials(alloc: Global, algebra: &Algebra, exprs: &[Expr]) -> Result<Vec<Poly>, Fault>
     requires { Each (IsPolynomial algebra.now) exprs.now }
-    ensures { AnswersBy (λ v. v.items) (spec.checked_polynomials (actions_of algebra.now) [] exprs.now) result }
+    ensures { AnswersBy (λ v. v.items) (spec.checked_polynomials (actions_of algebra.now) exprs.now) result }
 {
     let mut done = Vec::new(alloc);
     let mut rest = exprs;
@@ -88,7 +88,7 @@ fn quotients(
     quotients: &[Quotient],
 ) -> Result<Vec<Fraction>, Fault>
     requires { Each (IsQuotient algebra.now) quotients.now }
-    ensures { AnswersBy (λ v. map pair_of v.items) (spec.checked_quotients (actions_of algebra.now) [] quotients.now) result }
+    ensures { AnswersBy (λ v. map pair_of v.items) (spec.checked_quotients (actions_of algebra.now) quotients.now) result }
 {
     let mut done = Vec::new(alloc);
     let mut rest = quotients;

@@ -1,12 +1,16 @@
-use Rattle.std.proofs.Common.{◌≡◌, [], length}
+use Rattle.std.proofs.Common.{◌≡◌, length}
 use Rattle.ct_ore.specs.Naming.{actions_of}
 use Rattle.ct_problem.specs.WellFormed.{Each, IsOperator}
-use Rattle.ct_run.specs.Setup.{plain_generators}
+use Rattle.ct_run.specs.Setup.{plain_generator, plain_generators}
+use Rattle.ct_run.proofs.Traversals.{behind}
 use Rattle.ct_run.proofs.setup.plain_generators.Given as goal
 
 -- what is done and what is left
 abbrev pub invariant-valuing : goal.invariant-valuing
-invariant-valuing l = (plain_generators (actions_of l.algebra) [] l.exprs ≡ plain_generators (actions_of l.algebra) l.done.items l.rest) × Each (IsOperator l.algebra) l.rest
+invariant-valuing l =
+    (plain_generators (actions_of l.algebra) l.exprs ≡
+    behind (plain_generator (actions_of l.algebra)) l.done.items l.rest) ×
+    Each (IsOperator l.algebra) l.rest
 
 abbrev pub decreases-valuing : goal.decreases-valuing
 decreases-valuing l = length l.rest

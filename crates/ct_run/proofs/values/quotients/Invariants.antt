@@ -1,14 +1,17 @@
-use Rattle.std.proofs.Common.{◌≡◌, [], length, map}
+use Rattle.std.proofs.Common.{◌≡◌, length, map}
 use Rattle.ct_ore.specs.Naming.{actions_of}
 use Rattle.ct_problem.specs.WellFormed.{Each, IsQuotient}
 use Rattle.ct_run.specs.Fractions.{pair_of}
-use Rattle.ct_run.specs.Checking.{checked_quotients}
+use Rattle.ct_run.specs.Checking.{checked_quotient, checked_quotients}
+use Rattle.ct_run.proofs.Traversals.{behind}
 use Rattle.ct_run.proofs.values.quotients.Given as goal
 
 -- what is done and what is left
 abbrev pub invariant-valuing : goal.invariant-valuing
 invariant-valuing l =
-    (checked_quotients (actions_of l.algebra) [] l.fn.quotients ≡ checked_quotients (actions_of l.algebra) (map pair_of l.done.items) l.rest) × Each (IsQuotient l.algebra) l.rest
+    (checked_quotients (actions_of l.algebra) l.fn.quotients ≡
+    behind (λ _ q. checked_quotient (actions_of l.algebra) q) (map pair_of l.done.items) l.rest) ×
+    Each (IsQuotient l.algebra) l.rest
 
 abbrev pub decreases-valuing : goal.decreases-valuing
 decreases-valuing l = length l.rest

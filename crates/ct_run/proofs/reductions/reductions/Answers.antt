@@ -1,0 +1,10 @@
+use Rattle.std.proofs.Common.{ap, map}
+use Rattle.ct_ore.specs.Naming.{actions_of}
+use Rattle.ct_reduce.specs.Views.{reduction_of}
+use Rattle.ct_run.specs.Reducing.{target_reduction}
+use Rattle.ct_run.proofs.Traversals.{each_behind}
+use Rattle.ct_run.proofs.reductions.reductions.Goals as goal
+
+pub reducing-init : goal.reducing-init
+reducing-init c =
+    each_behind (target_reduction (actions_of c.args.algebra.now) c.args.generators.now) (map reduction_of c.new-done.result.items) c.args.targets.now (ap (map reduction_of) c.new-done.ensures.items)
