@@ -1,10 +1,10 @@
-// Texts with a fault, under `check`, and the line that tells the first.
+// Texts with a fault, or of a form that isn't supported yet, under `check`, and the line that tells it.
 
 use crate::tests::runs::{sink, words};
 use ct_run::{MemSource, NoGate, run};
 use std::test::Fail;
 
-const ROWS: [(&str, &str); 6] = [
+const ROWS: [(&str, &str); 7] = [
     (
         "mgfun problem 1\nfree x diff\ngen 170141183460469231731687303715884105728*D[x]\nend\n",
         "bad input NumberTooLarge at 32\n",
@@ -25,6 +25,10 @@ const ROWS: [(&str, &str); 6] = [
     (
         "mgfun problem 1\nfree n shift\nsum k\ngen S[n] - 2\nend\n",
         "bad input Missing at 48\n",
+    ),
+    (
+        "mgfun problem 1\nfree n shift\nsum k\nlet a = gens S[n] - 2; S[k] - 1\nuse a\norder 1..1\ndegree 0..0\nend\n",
+        "bad input NotYet\n",
     ),
 ];
 

@@ -31,8 +31,11 @@ const THIN: [&str; 18] = [
 ];
 
 /// The place of a line of `THIN`, what stands there, and the status and the line of the answer.
-const THIN_ROWS: [(usize, &str, u8, &str); 38] = [
+const THIN_ROWS: [(usize, &str, u8, &str); 41] = [
     (18, "", 0, "yes found 0\n"),
+    (2, "sum k\nlet a = gens S[n] - 2", 2, "bad input NotYet\n"),
+    (4, "gen S[k] - 1\nden k: 1", 2, "bad input NotYet\n"),
+    (4, "gen S[k] - 1\ntarget S[n]", 0, "yes found 0\n"),
     (15, "cofactor 1: 2", 8, "no identity\n"),
     (5, "order 0..1", 2, "bad input NotYet\n"),
     (9, "found 1 order 1 degree 0", 8, "no found\n"),
@@ -100,6 +103,29 @@ const THIN_ROWS: [(usize, &str, u8, &str); 38] = [
     (11, "numerator n: 0", 2, "bad input NotYet\n"),
     (10, "telescoper S[n] - 4/2", 2, "bad input NotYet\n"),
     (3, "gen S[m] - 2", 2, "bad input UnknownName at 41\n"),
+];
+
+/// A telescoper that overflows, at its place in `THIN`.
+const LARGE: (usize, &str) = (
+    10,
+    "telescoper 170141183460469231731687303715884105727*S[n] - 1",
+);
+
+/// The same for `THIN` with this telescoper: what the problem says is evaluated before it.
+const LARGE_ROWS: [(usize, &str, u8, &str); 3] = [
+    (18, "", 3, "overflow check input number\n"),
+    (
+        4,
+        "gen S[k] - 1\ntarget 170141183460469231731687303715884105727*S[n] - 1",
+        3,
+        "overflow setup input number\n",
+    ),
+    (
+        3,
+        "gen S[n]^2000*S[n]^2096",
+        3,
+        "overflow setup input degree\n",
+    ),
 ];
 
 /// A double sum, with a report that a person wrote.
@@ -191,6 +217,13 @@ fn each_has_its_answer(
 #[test]
 fn each_thin_text_has_its_answer(rt: HostRuntime) -> Result<(), Fail> {
     each_has_its_answer(&rt, rt.alloc(), &THIN, &THIN_ROWS, 100)
+}
+
+#[test]
+fn a_problem_overflows_before_its_report(rt: HostRuntime) -> Result<(), Fail> {
+    let mut lines = THIN;
+    lines[LARGE.0] = LARGE.1;
+    each_has_its_answer(&rt, rt.alloc(), &lines, &LARGE_ROWS, 100)
 }
 
 #[test]

@@ -5,11 +5,12 @@ use crate::tests::runs::{sink, words};
 use ct_run::{Failed, NoGate, Source, run};
 use std::test::Fail;
 
-/// So many bytes that are left, all the same.
+/// So many bytes that are left, all the same, and the greatest length of a piece that was asked for.
 #[derive(Drop)]
 struct Repeated {
     byte: u8,
     left: usize,
+    greatest: usize,
 }
 
 impl Source for Repeated {
@@ -18,6 +19,7 @@ impl Source for Repeated {
     ghost faults = { λ _. 0 };
 
     fn read(&mut self, piece: &mut [u8]) -> Result<usize, Failed> {
+        self.greatest = self.greatest.max(piece.len());
         let count = self.left.min(piece.len());
         for byte in piece.iter_mut().take(count) {
             *byte = self.byte;
@@ -39,12 +41,17 @@ fn a_text_past_the_limit_is_too_long(rt: HostRuntime) -> Result<(), Fail> {
         (b'#', 67_108_864, 0, "bad input Unfinished at 67108864\n"),
     ];
     for (byte, left, unread, line) in cases {
-        let mut source = Repeated { byte, left };
+        let mut source = Repeated {
+            byte,
+            left,
+            greatest: 0,
+        };
         let mut sink = sink(alloc, 100, &[])?;
         let status = run(&rt, alloc, &words, &mut source, &mut sink, &NoGate);
         assert_eq!(rt; status.number(), 2);
         assert_eq!(rt; sink.written(), line.as_bytes());
         assert_eq!(rt; source.left, unread);
+        assert_eq!(rt; source.greatest, 65_536);
     }
     Ok(())
 }
