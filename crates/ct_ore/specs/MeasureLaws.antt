@@ -4,8 +4,8 @@
 --     ProductFitsWhereMeasuresDo   a product of nonzero operators fits exactly where they leave it room (`FitsProduct`)
 --     ProductWithZeroFits          a product with zero always fits
 --     CheckedValuesAreExact        a checked value is the exact sum, difference, product or combination
---     SumsAreWithinMeasures        of a sum or a difference (`IsWithinSum`)
---     ProductsAreWithinMeasures    of a product, of the pairs that are counted and weighed before any are gathered
+--     SumsAreWithinMeasures        a sum or a difference has at most the terms and the norm of both operands (`IsWithinSum`)
+--     ProductsAreWithinMeasures    a product has at most the terms and the norm of all pairs, as the rules count and weigh them
 use Rattle.std.specs.Prelude.{◌≡◌, ◌≢◌, ◌↔◌, ◌+◌, ◌≤◌, max, Ok, None, List}
 use Rattle.ct_algebra.specs.Names.{Name}
 use Rattle.ct_algebra.specs.Actions.{Action}

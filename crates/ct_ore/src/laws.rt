@@ -26,8 +26,8 @@ pub fn sums_are_within_measures()
     ensures { SumsAreWithinMeasures }
 {}
 
-/// A product has at most the terms and the norm that its pairs are counted and weighed for, and at most the
-/// degree and the order of both factors together.
+/// A product has at most the terms and the norm of all pairs, as the rules count and weigh them, and at most
+/// the degree and the order of both factors together.
 pub fn products_are_within_measures()
     ensures { ProductsAreWithinMeasures }
 {}

@@ -1,4 +1,4 @@
-// Each call that takes memory once, with values worked by hand. The names 0 and 1 are n, a shift, and x, a derivation.
+// Each call that takes memory once, with values computed by hand. The names 0 and 1 are n, a shift, and x, a derivation.
 ghost use Rattle.std.specs.Prelude.{◌<◌};
 
 use crate::{Action, Algebra, NameInfo, Op, Role};
