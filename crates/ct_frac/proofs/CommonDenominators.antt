@@ -102,9 +102,11 @@ all_least done (f ∷ fs) gs each its = all_least (joined_greatest f done) fs gs
 wider_least : (c d w e : Denominator) → checked_wider c d ≡ Ok w → DividesFactors c e → DividesFactors d e → DividesFactors w e
 unfolding checked_wider
 wider_least c d w e answer first second =
-    let both = both_fit (checked_whole (least_common c.whole d.whole)) (λ whole. Ok (record { whole = whole; factors = all_greatest c.factors d.factors })) w answer in
-    let kept = whole_ok (least_common c.whole d.whole) both.value both.first in
-    subst (λ w. DividesFactors w e) (same_ok (record { whole = both.value; factors = all_greatest c.factors d.factors }) w both.rest) (record {
+    let common = least_common c.whole d.whole in
+    let both = both_fit (checked_whole common) (λ whole. Ok (record { whole = whole; factors = all_greatest c.factors d.factors })) w answer in
+    let kept = whole_ok common both.value both.first in
+    let made : Denominator = record { whole = both.value; factors = all_greatest c.factors d.factors } in
+    subst (λ w. DividesFactors w e) (same_ok made w both.rest) (record {
       whole = subst (λ k. k ∣ e.whole) kept.same ((least_common_least c.whole d.whole).divides_others e.whole first.whole second.whole);
       factors = all_least c.factors d.factors e.factors first.factors second.factors;
     })

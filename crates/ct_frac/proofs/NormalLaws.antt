@@ -73,7 +73,8 @@ lowered-value n done (f ∷ fs) =
     ∙ ap (times (power f.poly is.lost)) (lowered-value left.numerator kept fs)
     ∙ ap (λ x. times (power f.poly is.lost) (times r.numerator (times x (product_of_factors fs)))) kept_is
     ∙ regroup (power f.poly is.lost) r.numerator (product_of_factors done) (power f.poly left.exponent) (product_of_factors fs)
-    ∙ ap (λ x. times r.numerator (times (product_of_factors done) (times x (product_of_factors fs)))) (sym (ap (power f.poly) (sym is.exponent_is) ∙ power-sum f.poly is.lost left.exponent))
+    ∙ ap (λ x. times r.numerator (times (product_of_factors done) (times x (product_of_factors fs))))
+    (sym (ap (power f.poly) (sym is.exponent_is) ∙ power-sum f.poly is.lost left.exponent))
 
 -- ---- the whole number
 

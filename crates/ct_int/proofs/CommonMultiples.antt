@@ -1,11 +1,11 @@
 -- The least common multiple of two numbers. Main lemmas: `least_common_least`, which the law `least_common_is_least` cites, and
 -- `least_common_is`, that of positive numbers is positive, for the crates above.
 -- With m = x·g, c = y·g and g the greatest common divisor it is x·c; where m divides k·c, x divides k, since x and y are coprime.
-use Rattle.std.specs.Prelude.{◌≡◌, ℕ, zero, suc, ◌*◌, ◌/◌, ◌<◌, ◌≤◌}
+use Rattle.std.specs.Prelude.{◌≡◌, ℕ, zero, suc, ◌*◌, ◌/◌, ◌<◌}
 use Rattle.std.proofs.Common.{sym, ◌∙◌, ap, subst, arith}
 use Rattle.std.specs.Int.{◌∣◌, IsGcd}
 use Rattle.std.proofs.lemmas.Nat.Gcd.{dvd-zero}
-use Rattle.std.proofs.Math.Nat.{div-mul_cancel, dvd-mul_left, dvd_of_mul-dvd-mul_right, mul-dvd-mul_right, mul_assoc, mul_comm, mul-zero, pos_of_ne-zero, zero-mul, le-mul_of_pos_right}
+use Rattle.std.proofs.Math.Nat.{div-mul_cancel, dvd-mul_left, dvd-mul_right, dvd_of_mul-dvd-mul_right, mul-dvd-mul_right, mul_assoc, mul_comm, mul-pos, mul-zero, pos_of_dvd_of_pos}
 use Rattle.ct_int.specs.DivisorLaws.{IsLeastCommon}
 use Rattle.ct_int.specs.Divisors.{greatest_common, least_common}
 use Rattle.ct_int.proofs.CommonDivisors.{greatest_common_is, divisor_positive}
@@ -47,7 +47,8 @@ module _ (m c : ℕ) (some : 0 < c) where
   divides_others n first second =
       let k = n / c in
       let whole : k * c ≡ n = div-mul_cancel c second in
-      let both : m / g * g ∣ c / g * k * g = subst (λ a. a ∣ c / g * k * g) (sym first_is) (subst (λ n. m ∣ n) (sym whole ∙ spread k) first) in
+      let both : m / g * g ∣ c / g * k * g =
+      subst (λ a. a ∣ c / g * k * g) (sym first_is) (subst (λ n. m ∣ n) (sym whole ∙ spread k) first) in
       let part : m / g ∣ k = divides_other (m / g) (c / g) k coprime (dvd_of_mul-dvd-mul_right (m / g) positive_divisor both) in
       subst (λ n. m / g * c ∣ n) whole (mul-dvd-mul_right (m / g) part c)
 
@@ -71,9 +72,9 @@ pub record LeastCommon (a b m : ℕ) : Type 0 where
   pub positive : 0 < m
 
 pub least_common_is : (a b : ℕ) → 0 < a → 0 < b → LeastCommon a b (least_common a b)
-unfolding least_common
 least_common_is a b some other =
-    let least = least_common_least a b in
-    let quotient : 0 < a / g a b other = pos_of_ne-zero (λ none. let zero_a : a ≡ 0 = sym (first_is a b other) ∙ ap (λ k. k * g a b other) none ∙ zero-mul (g a b other) in omega arith) in
-    let high : b ≤ a / g a b other * b = subst (λ k. b ≤ k) (mul_comm b (a / g a b other)) (le-mul_of_pos_right b quotient) in
-    record { first = least.first_divides; second = least.second_divides; positive = omega arith }
+    let least = least_common_least a b in record {
+      first = least.first_divides;
+      second = least.second_divides;
+      positive = pos_of_dvd_of_pos (least.divides_others (a * b) (dvd-mul_right a b) (dvd-mul_left b a)) (mul-pos some other);
+    }

@@ -5,7 +5,7 @@
 //!
 //! `Kind` and `Fault` say what a call that can overflow answers. `specs/Checked.antt` has the words of
 //! its contract: a checked computation is a value or the kind of its first overflow, and a call `Answers`
-//! it, want of memory aside. Read that page first.
+//! it, unless memory runs out. Read that page first.
 #![tactic(auto)]
 
 mod fault;

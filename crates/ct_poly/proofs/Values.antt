@@ -113,7 +113,14 @@ module _ {p q : Polynomial} (ps qs : List Term) (mine : IsKept p ps) (its : IsKe
     can_multiply = record {
       first = mine.falling;
       second = its.falling;
-      degrees = omega (arith, fits.low, greatest_total-falling ps mine.falling, greatest_total-falling qs its.falling, degree_of-terms ps mine.falling mine.value, degree_of-terms qs its.falling its.value);
+      degrees = omega (
+        arith,
+        fits.low,
+        greatest_total-falling ps mine.falling,
+        greatest_total-falling qs its.falling,
+        degree_of-terms ps mine.falling mine.value,
+        degree_of-terms qs its.falling its.value,
+      );
       sizes = omega (arith, fits.small, ap₂ ◌*◌ norms.0 norms.1);
     }
 
