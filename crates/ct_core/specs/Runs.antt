@@ -17,7 +17,7 @@ run_of s (e ∷ es) = elim (step_of s e) [ None ↦ None | Some t ↦ run_of t e
 abbrev pub FailsAt : Machine → List Event → ℕ → Type 0
 FailsAt s es place = (t : Machine) × (e : Event) × (run_of s (take place es) ≡ Some t) × (slice_get es place ≡ Some e) × (step_of t e ≡ None)
 
--- Illegal names the place of the first event that is not legal. Want of memory says nothing.
+-- Illegal names the place of the first event that is not legal. Out of memory says nothing.
 abbrev pub Fails : Machine → List Event → CoreFault → Type 0
 Fails s es (Illegal place) = FailsAt s es place
 Fails s es NoMemory = Unit {0}

@@ -84,7 +84,7 @@ step_at s (Some v) e = if is_legal s.count v e then Some (machine_after s (worke
 abbrev pub step_of : Machine → Event → Option Machine
 step_of s e = step_at s (slice_get s.views (worker_of e)) e
 
--- Illegal comes where the event is not legal. Want of memory says nothing.
+-- Illegal comes where the event is not legal. Out of memory says nothing.
 abbrev pub Refused : Machine → Event → CoreFault → Type 0
 Refused s e (Illegal k) = (k ≡ 0) × (step_of s e ≡ None)
 Refused s e NoMemory = Unit {0}

@@ -4,7 +4,7 @@
 --     verdict o x       x, unless a rule on the operands names a kind
 --     Answers c r       what a call may answer to the computation c: its value, its kind, or that memory ran out
 --     AnswersBy f c r   the same for a result that is seen through f
--- Want of memory answers every computation; nothing else is left open. Cited by every call that can overflow.
+-- Out of memory answers every computation; nothing else is left open. Cited by every call that can overflow.
 use Rattle.std.specs.Prelude.{◌≡◌, Ok, Err, None, Some, refl}
 use Rattle.std.proofs.Common.{Result, Option}
 use Rattle.ct_mono.specs.declared.fault.Kind.{Kind}

@@ -43,7 +43,7 @@ few_listed variables lines (Listed xs) known = let few = known.few in omega (ari
 few_listed variables lines (Named at) known = omega arith
 
 module _ (bytes : List ℕ) where
-  -- what `check` may give out over these bytes
+  -- what `check` may answer over these bytes
   abbrev Checks : Output → Type 0
   Checks o = CheckMeans bytes o.outcome o.text
 
@@ -129,7 +129,7 @@ module _ (bytes : List ℕ) where
 -- ---- `reduce`
 
 module _ (bytes : List ℕ) where
-  -- what `reduce` may give out over these bytes
+  -- what `reduce` may answer over these bytes
   abbrev Reduces : Output → Type 0
   Reduces o = ReduceMeans bytes o.outcome o.text
 
