@@ -1,6 +1,5 @@
 pub mod Deciding
 pub mod ByAction
-pub mod TermsCompared
 pub mod Steps
 pub mod FreedomSteps
 pub mod Order

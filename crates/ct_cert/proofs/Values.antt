@@ -8,13 +8,14 @@ use Rattle.ct_algebra.specs.Monomial.{unit}
 use Rattle.ct_algebra.specs.Names.{Name, symbol}
 use Rattle.ct_algebra.specs.Polynomial.{Polynomial, polys, times}
 use Rattle.ct_algebra.specs.Actions.{Action, Shift, Derive, Still, by_action, sigma, sigma_by, delta, delta_by}
-use Rattle.ct_algebra.specs.Operators.{Operator, operator_group, no_operator, sum_of_operators, negative, term_of, product_of, symbol_before, multiple, combination}
+use Rattle.ct_algebra.specs.Operators.{Operator, operator_group, no_operator, sum_of_operators, negative, term_of, symbol_before, multiple, combination}
 use Rattle.ct_algebra.specs.Certificate.{Summand, Certificate, difference_denominator, difference_numerator, differences, IsIdentity}
 use Rattle.ct_algebra.proofs.ProductRule.{product_of-polynomial, product_of-symbol}
 use Rattle.ct_mono.specs.Checked.{◌>>=◌, verdict_ok, both_fit}
 use Rattle.ct_poly.specs.Measures.{checked_times, checked_shifted, checked_derived, shifted, product_overflow, shift_overflow, derivative_overflow}
 use Rattle.ct_ore.specs.Measures.{checked_sum, checked_difference, difference_of_operators, checked_product, checked_combination}
 use Rattle.ct_ore.specs.Measures as operators
+use Rattle.ct_ore.proofs.CheckedValues.{checked_values, combination_value}
 use Rattle.ct_cert.specs.Arithmetic.{same_polynomial, same_operator, shift_denominator, checked_denominator, checked_coefficient, checked_numerator, with_difference, checked_differences, checked_part, checked_identity, checked_multiple}
 use Rattle.ct_cert.proofs.Deciding.{same_polynomial_decides, same_operator_decides}
 
@@ -30,24 +31,18 @@ derive_value : (i : Name) (p r : Polynomial) → checked_derived i p ≡ Ok r �
 unfolding checked_derived
 derive_value i p r fits = verdict_ok (derivative_overflow i p) _ r fits
 
-sum_value : (p q r : Operator) → checked_sum p q ≡ Ok r → sum_of_operators p q ≡ r
-unfolding checked_sum
-sum_value p q r fits = verdict_ok (operators.sum_overflow p q) _ r fits
-
 difference_value : (p q r : Operator) → checked_difference p q ≡ Ok r → sum_of_operators p (negative q) ≡ r
 unfolding checked_difference difference_of_operators
 difference_value p q r fits = verdict_ok (operators.sum_overflow p q) _ r fits
 
-module _ (a : Name → Action) where
-  product_value : (p q r : Operator) → checked_product a p q ≡ Ok r → product_of a p q ≡ r
-  unfolding checked_product
-  product_value p q r fits = verdict_ok (operators.product_overflow a p q) _ r fits
+open checked_values use {sums, products}
 
+module _ (a : Name → Action) where
   multiple_value : (c : Polynomial) (p r : Operator) → checked_multiple a c p ≡ Ok r → multiple a c p ≡ r
-  multiple_value c p r fits = sym (product_of-polynomial a c p) ∙ product_value (term_of unit c) p r fits
+  multiple_value c p r fits = sym (product_of-polynomial a c p) ∙ products a (term_of unit c) p r fits
 
   symbol_value : (i : Name) (p r : Operator) → checked_product a (term_of (symbol i) polys.one) p ≡ Ok r → symbol_before a i p ≡ r
-  symbol_value i p r fits = sym (product_of-symbol a i p) ∙ product_value (term_of (symbol i) polys.one) p r fits
+  symbol_value i p r fits = sym (product_of-symbol a i p) ∙ products a (term_of (symbol i) polys.one) p r fits
 
   -- ---- N
 
@@ -112,7 +107,7 @@ module _ (a : Name → Action) where
       let numerator = both_fit (checked_numerator a s) (λ n. checked_multiple a s.factor n >>= (λ p. checked_sum sum p)) r fits in
       let product = both_fit (checked_multiple a s.factor numerator.value) (λ p. checked_sum sum p) r numerator.rest in
       ap (sum_of_operators sum) (ap (multiple a s.factor) (numerator_value s numerator.value numerator.first) ∙ multiple_value s.factor numerator.value product.value product.first)
-      ∙ sum_value sum product.value r product.rest
+      ∙ sums sum product.value r product.rest
 
   differences_value :
       (sum : Operator) (ss : List Summand) (r : Operator) → checked_differences a sum ss ≡ Ok r →
@@ -125,18 +120,6 @@ module _ (a : Name → Action) where
       ∙ ap (λ p. operator_group.◌+◌ p (differences a ss)) (with_difference_value sum s more.value more.first)
       ∙ differences_value more.value ss r more.rest
 
-  combination_value : (sum : Operator) (cs gs : List Operator) (r : Operator) → checked_combination a sum cs gs ≡ Ok r →
-      sum_of_operators sum (combination a cs gs) ≡ r
-  unfolding sum_of_operators no_operator
-  combination_value sum [] gs r fits = operator_group.add_zero sum ∙ cc
-  combination_value sum (c ∷ cs) [] r fits = operator_group.add_zero sum ∙ cc
-  combination_value sum (c ∷ cs) (g ∷ gs) r fits =
-      let product = both_fit (checked_product a c g) (λ p. checked_sum sum p >>= (λ more. checked_combination a more cs gs)) r fits in
-      let more = both_fit (checked_sum sum product.value) (λ more. checked_combination a more cs gs) r product.rest in
-      sym (operator_group.add_assoc sum (product_of a c g) (combination a cs gs))
-      ∙ ap (λ p. operator_group.◌+◌ p (combination a cs gs)) (ap (operator_group.◌+◌ sum) (product_value c g product.value product.first) ∙ sum_value sum product.value more.value more.first)
-      ∙ combination_value more.value cs gs r more.rest
-
   pub identity_value :
       (generators : List Operator) (c : Certificate) (b : Bool) → checked_identity a generators c ≡ Ok b →
       Decides b (IsIdentity a generators c)
@@ -147,7 +130,7 @@ module _ (a : Name → Action) where
       let right = both_fit (checked_combination a differences.value c.cofactors generators) (λ r. Ok (same_operator left.value r)) b differences.rest in
       let first : multiple a c.scale c.telescoper ≡ left.value = multiple_value c.scale c.telescoper left.value left.first in
       let summed = differences_value no_operator c.summands differences.value differences.first in
-      let second = ap (λ p. operator_group.◌+◌ p (combination a c.cofactors generators)) (sym (zero_add operator_group _) ∙ summed) ∙ combination_value differences.value c.cofactors generators right.value right.first in
+      let second = ap (λ p. operator_group.◌+◌ p (combination a c.cofactors generators)) (sym (zero_add operator_group _) ∙ summed) ∙ combination_value a differences.value c.cofactors generators right.value right.first in
       let is : same_operator left.value right.value ≡ b = cc (right.rest) in
       let decides = same_operator_decides left.value right.value in
       (λ yes. first ∙ decides.0 (is ∙ yes) ∙ sym second, λ equal. sym is ∙ decides.1 (sym first ∙ equal ∙ second))

@@ -1,10 +1,9 @@
 // The arithmetic of the tests, in its order.
-ghost use Rattle.std.specs.Prelude.{◌≡◌, ◌<◌, ◌≤◌, ◌↔◌, IsTrue, length, map, Ok};
+ghost use Rattle.std.specs.Prelude.{◌≡◌, ◌<◌, ◌≤◌, length, map, Ok};
 ghost use Rattle.std.specs.List.{All};
 ghost use Rattle.ct_algebra.specs.Names.{name_with};
 ghost use Rattle.ct_algebra.specs.Operators.{no_operator};
 ghost use Rattle.ct_mono.specs.Checked.{Answers};
-ghost use Rattle.ct_ore.specs.Terms.{op_entries};
 ghost use Rattle.ct_ore.specs.Measures.{checked_combination};
 ghost use Rattle.ct_ore.specs.Naming.{action_of, actions_of};
 ghost use Rattle.ct_ore.specs.Answers.{summand_of};
@@ -12,7 +11,7 @@ ghost use Rattle.ct_cert.specs.Certificates.{IsNamed};
 ghost use Rattle.ct_cert.specs.Arithmetic.{same_polynomial, same_operator, checked_multiple, shift_denominator, checked_denominator, checked_coefficient, checked_numerator, with_difference, checked_differences, checked_part};
 
 use ct_mono::Fault;
-use ct_ore::{Action, Algebra, Op, OpTerm, Part};
+use ct_ore::{Action, Algebra, Op, Part};
 use ct_poly::Poly;
 use std::alloc::Global;
 
@@ -80,41 +79,16 @@ pub(crate) fn multiple(alloc: Global, algebra: &Algebra, c: &Poly, p: &Op) -> Re
     factor.mul(alloc, algebra, p)
 }
 
-// Operators have no other test for equality.
 pub(crate) fn same_op(p: &Op, q: &Op) -> bool
     ensures { result ≡ same_operator p.now q.now }
 {
-    same_terms(p.terms(), q.terms())
+    p.same(q)
 }
 
 fn same_poly(p: &Poly, q: &Poly) -> bool
     ensures { result ≡ same_polynomial p.now q.now }
 {
     p.same(q)
-}
-
-fn same_terms(ps: &[OpTerm], qs: &[OpTerm]) -> bool
-    ensures { IsTrue result ↔ (op_entries ps.now ≡ op_entries qs.now) }
-{
-    let mut left = ps;
-    let mut right = qs;
-    while let Some((p, more)) = left.split_first() {
-        let Some((q, others)) = right.split_first() else {
-            return false;
-        };
-        if !same_term(p, q) {
-            return false;
-        }
-        left = more;
-        right = others;
-    }
-    right.is_empty()
-}
-
-fn same_term(p: &OpTerm, q: &OpTerm) -> bool
-    ensures { IsTrue result ↔ ((p.now.mono ≡ q.now.mono) × (p.now.coef ≡ q.now.coef)) }
-{
-    p.mono == q.mono && p.coef.same(&q.coef)
 }
 
 fn action_of_name(algebra: &Algebra, name: u8) -> Action

@@ -1,5 +1,5 @@
-use Rattle.ct_cert.proofs.TermsCompared.{same_operators}
+use Rattle.ct_cert.proofs.Deciding.{decided, same_operator_decides}
 use Rattle.ct_cert.proofs.arithmetic.same_op.Goals as goal
 
 pub returns : goal.returns
-returns c = same_operators c.args.p.now c.args.q.now c.terms.result.now c.terms-2.result.now c.same_terms.result c.terms.ensures c.terms-2.ensures c.same_terms.ensures
+returns c = decided c.same.result _ c.same.ensures (same_operator_decides c.args.p.now c.args.q.now)
