@@ -3,7 +3,6 @@
 use Rattle.std.proofs.Common.{◌≡◌, ℕ, Bool, true, false, List, [], Ok, refl, sym, ap, ◌∙◌}
 use Rattle.std.proofs.lemmas.List.{append-nil}
 use Rattle.ct_token.specs.Lexical.{scan_of}
-use Rattle.ct_token.proofs.TokenPlaces.{scans_are_tokens}
 use Rattle.ct_ore.specs.Naming.{Naming, IsAlgebra}
 use Rattle.ct_expr.specs.declared.expr.Expr.{Expr}
 use Rattle.ct_problem.specs.Input.{Input, Outcome}
@@ -12,9 +11,7 @@ use Rattle.ct_problem.specs.Expressions.{expression}
 use Rattle.ct_problem.specs.WellFormed.{IsOperator, IsPolynomial}
 use Rattle.ct_problem.proofs.Taking.{Taken}
 use Rattle.ct_problem.proofs.TakenExpressions.{Takes-expression}
-use Rattle.ct_problem.proofs.ExpressionKinds.{IsFor}
-use Rattle.ct_problem.proofs.EvaluableExpressions.{Makes-expression}
-use Rattle.ct_problem.proofs.WellFormedLines.{operator_is, polynomial_is}
+use Rattle.ct_problem.proofs.WellFormedLines.{operator_of, polynomial_of}
 use Rattle.ct_answer.specs.ReadBack.{IsSpelled}
 
 module _ (names : List Naming) (operators : Bool) (text : List ℕ) where
@@ -38,14 +35,8 @@ module _ (names : List Naming) (operators : Bool) (text : List ℕ) where
           let pairs : ◌≡◌ {A = Expr × Input} (x, i) (y, j) = cc in
           ap (λ (r : Expr × Input). r.0) pairs
 
-  is_for : (x : Expr) → IsAlgebra names → IsSpelled names operators x text → IsFor names operators x
-  unfolding start
-  is_for x known spelled =
-      let one = is_read x spelled in
-      (Makes-expression (declared names) known.few operators start one.left x (scans_are_tokens text 0) one.reads).holds
-
 pub is_operator : (names : List Naming) (text : List ℕ) (x : Expr) → IsAlgebra names → IsSpelled names true x text → IsOperator names x
-is_operator names text x known spelled = operator_is names x (is_for names true text x known spelled)
+is_operator names text x known spelled = operator_of (declared names) known.few x _ spelled.stands
 
 pub is_polynomial : (names : List Naming) (text : List ℕ) (x : Expr) → IsAlgebra names → IsSpelled names false x text → IsPolynomial names x
-is_polynomial names text x known spelled = polynomial_is names x (is_for names false text x known spelled)
+is_polynomial names text x known spelled = polynomial_of (declared names) known.few x _ spelled.stands

@@ -1,4 +1,4 @@
--- What is known of a cursor's tokens: they are tokens of the text after a step too (`IsCursor-tail`), and the bytes of a
+-- What is known of a cursor's tokens: those of a later part of the text are its tokens (`IsCursor-later`), and the bytes of a
 -- word are ASCII (`word_spelled`).
 use Rattle.std.proofs.Common.{◌≡◌, ℕ, zero, suc, ◌<◌, Bool, true, false, ◌&&◌, IsTrue, List, [], ◌∷◌, Some, refl, subst, arith, rules, tests}
 use Rattle.std.specs.List.{All, list_all, list_any}
@@ -11,7 +11,7 @@ use Rattle.ct_token.specs.declared.token.Token.{Token}
 use Rattle.ct_token.specs.Lexical.{is_letter, is_word_byte, is_line_end}
 use Rattle.ct_token.specs.Lexing.{AreTokens, IsToken, IsWord, Spells, slice}
 use Rattle.ct_problem.specs.Cursor.{IsCursor}
-use Rattle.ct_problem.specs.Input.{has_line_end, spelling_in, symbol_of, tail}
+use Rattle.ct_problem.specs.Input.{has_line_end, spelling_in, symbol_of}
 use Rattle.ct_problem.proofs.Slices.{slice_of-slice}
 
 -- ---- steps
@@ -21,10 +21,6 @@ IsCursor-later text at [] h = tt
 IsCursor-later text at (t ∷ ts) h =
     let first : IsToken text 0 t = record { after = omega arith; some = h.0.some; within = h.0.within; spelled = h.0.spelled; whole = h.0.whole } in
     (first, h.1)
-
-pub IsCursor-tail : (text : List ℕ) (left : List Token) → IsCursor text left → IsCursor text (tail left)
-IsCursor-tail text [] h = tt
-IsCursor-tail text (t ∷ ts) h = IsCursor-later text t.to ts h.1
 
 -- ---- words
 

@@ -1,6 +1,6 @@
 -- Which expressions can be evaluated, which are over the names of a list, and which have no symbol, kind by kind.
 --     IsFor names operators x     what is known of an expression over these names, with operators or without
-use Rattle.std.proofs.Common.{◌≡◌, ◌≢◌, ℕ, zero, suc, ◌<◌, ◌≤◌, Bool, true, false, List, [], ◌∷◌, ◌++◌, map, IsTrue, pos, nat_lt, slice_get, refl, sym, ap, ◌∙◌, arith}
+use Rattle.std.proofs.Common.{◌≡◌, ◌≢◌, ℕ, zero, suc, ◌<◌, ◌≤◌, Bool, true, false, List, [], ◌∷◌, map, IsTrue, pos, nat_lt, slice_get, refl, sym, ap, ◌∙◌, arith}
 use Rattle.std.proofs.lemmas.Bool.{false≢true, le-leb}
 use Rattle.ct_mono.specs.Limits.{largest_norm}
 use Rattle.ct_expr.specs.declared.expr.Expr.{Expr}
@@ -90,10 +90,6 @@ pub record IsTermFor (ns : List Naming) (operators : Bool) (t : Summand) : Type 
   pub evaluable : IsTrue (is_evaluable_term t)
   pub over : IsTrue (is_over_term ns t)
   pub plain : operators ≡ false → IsTrue (has_no_symbol_term t)
-
-pub Each-more : {X : Type 0} (P : X → Type 0) (xs : List X) (x : X) → Each P xs → P x → Each P (xs ++ x ∷ [])
-Each-more P [] x each last = (last, tt)
-Each-more P (y ∷ ys) x each last = (each.0, Each-more P ys x each.1 last)
 
 all_true-of : {X : Type 0} (test : X → Bool) (P : X → Type 0) (xs : List X) → ((x : X) → P x → IsTrue (test x)) → Each P xs → IsTrue (all_true (map test xs))
 all_true-of test P [] h each = refl

@@ -7,7 +7,6 @@ pub mod KnownTexts
 pub mod Plainness
 pub mod Definitions
 pub mod GivenDens
-pub mod Steps
 pub mod NewNames
 pub mod AlgebraNames
 pub mod SummedNames

@@ -1,6 +1,6 @@
 -- What is known of a text that is declared: it is a word, since tokens are spelled as their symbols say, and differs from the
--- texts before it. Main lemma `Makes-new_name`.
-use Rattle.std.proofs.Common.{◌≡◌, ◌≢◌, ℕ, suc, ◌+◌, ◌<◌, ◌||◌, not, Bool, true, false, cond, List, [], ◌∷◌, length, Option, Some, None, Ok, IsTrue, nat_lt, refl, sym, ◌∙◌, subst, arith, rules, tests, codes}
+-- texts before it. Main lemmas `words_are` and `is_new_gives`.
+use Rattle.std.proofs.Common.{◌≡◌, ◌≢◌, ℕ, suc, ◌+◌, ◌<◌, ◌||◌, not, Bool, true, false, cond, List, [], ◌∷◌, ◌++◌, length, Option, Some, None, IsTrue, nat_lt, refl, sym, ◌∙◌, subst, arith, rules, tests, codes}
 use Rattle.std.specs.List.{position, prefix_len, list_all}
 use Rattle.std.specs.Option.{is_none}
 use Rattle.std.specs.Str.{bytes_eq}
@@ -13,14 +13,11 @@ use Rattle.ct_token.specs.Lexical as lexical
 use Rattle.ct_token.specs.Lexing as lexing
 use Rattle.ct_token.specs.Lexing.{slice}
 use Rattle.ct_ore.specs.Naming.{Naming, IsWord, are_word_bytes, IsOtherText}
-use Rattle.ct_problem.specs.declared.fault.BadKind.TheVariants.{NameTooLong, DuplicateName}
-use Rattle.ct_problem.specs.Cursor.{IsCursor}
-use Rattle.ct_problem.specs.Input.{◌>>=◌, ◌>>◌, peek, skip, pure, symbol, symbol_of, spelling, spelling_in}
-use Rattle.ct_problem.specs.Declarations.{new_name, spelled_word}
+use Rattle.ct_problem.specs.Lexemes.{Lexeme, Texts, ◌▸◌, lexeme_of, lexemes}
+use Rattle.ct_problem.specs.Lexemes as lexeme
 use Rattle.ct_problem.specs.Names.{Names, is_named, is_new, is_unknown, is_letter_of_symbol, known, known_by}
+use Rattle.ct_problem.specs.WellFormed.{Each}
 use Rattle.ct_problem.proofs.Cursors.{both_pass}
-use Rattle.ct_problem.proofs.Slices.{slice_of-slice}
-use Rattle.ct_problem.proofs.Steps.{Made, Makes, Makes-pure, Makes-fault_if, Makes-bind, Makes-then, Makes-skip}
 
 -- ---- words
 
@@ -32,12 +29,36 @@ word_of : (bs : List ℕ) → lexing.IsWord bs → IsWord bs
 word_of [] h = h
 word_of (b ∷ bs) h = rw (h.0) (word_bytes bs h.1)
 
-word_is : (text : List ℕ) (left : List Token) → IsCursor text left → symbol_of left ≡ Some Word → IsWord (spelling_in text left)
-word_is text [] tokens e = cc
-word_is text (t ∷ ts) tokens e =
-    let word : t.symbol ≡ Word = cc in
-    let spelled : lexing.IsWord (slice t.from t.to text) = subst (λ (s : Symbol). lexing.Spells s (slice t.from t.to text)) word tokens.0.spelled in
-    rw (slice_of-slice t.from t.to text) (word_of _ spelled)
+-- what a lexeme knows of its letters
+abbrev pub IsSpelled : Lexeme → Type 0
+IsSpelled (lexeme.Word w) = IsWord w
+IsSpelled (lexeme.Number n) = Unit {0}
+IsSpelled (lexeme.Sign s) = Unit {0}
+IsSpelled lexeme.Dots = Unit {0}
+IsSpelled lexeme.LineEnd = Unit {0}
+
+-- the first of some tokens
+pub words_are : (text : List ℕ) (at : ℕ) (front back : List Token) → lexing.AreTokens text at (front ++ back) → Each IsSpelled (lexemes text front)
+words_are text at [] back tokens = tt
+words_are text at (t ∷ front) back tokens = (by t.symbol (slice t.from t.to text) tokens.0.spelled, words_are text t.to front back tokens.1)
+  where
+    by : (s : Symbol) (bytes : List ℕ) → lexing.Spells s bytes → IsSpelled (lexeme_of s bytes)
+    by Word bytes spelled = word_of bytes spelled
+    by Number bytes spelled = tt
+    by (Sign s) bytes spelled = tt
+    by Dots bytes spelled = tt
+    by LineEnd bytes spelled = tt
+
+both_parts : (xs ys : List Lexeme) → Each IsSpelled (xs ++ ys) → Each IsSpelled xs × Each IsSpelled ys
+both_parts [] ys h = (tt, h)
+both_parts (x ∷ xs) ys h = let rest = both_parts xs ys h.1 in ((h.0, rest.0), rest.1)
+
+module _ {a b : Texts} {ls : List Lexeme} (h : (a ▸ b) ls) (words : Each IsSpelled ls) where
+  pub words_before : Each IsSpelled h.front
+  words_before = (both_parts h.front h.back (subst (Each IsSpelled) h.parts words)).0
+
+  pub words_behind : Each IsSpelled h.back
+  words_behind = (both_parts h.front h.back (subst (Each IsSpelled) h.parts words)).1
 
 -- ---- new texts
 
@@ -82,7 +103,7 @@ no_variable : (o p : Option ℕ) → IsTrue (is_unknown (known_by o p)) → is_n
 no_variable None p h = refl
 no_variable (Some at) p h = absurd (false≢true h)
 
-is_new_gives : (text : List ℕ) (names : Names) → IsWord text → IsTrue (is_new text names) → IsNew names.variables text
+pub is_new_gives : (text : List ℕ) (names : Names) → IsWord text → IsTrue (is_new text names) → IsNew names.variables text
 unfolding is_new known
 is_new_gives text names word e =
     let parts = both_pass (not (is_letter_of_symbol text)) (is_unknown (known text names)) e in
@@ -94,30 +115,6 @@ is_new_gives text names word e =
       other = other_text text names.variables (no_variable (position (is_named text) names.variables) (position (bytes_eq text) names.lets) parts.1);
     }
 
--- ---- the rule
-
-Makes-spelled : Makes (peek >>= spelled_word) IsWord
-Makes-spelled i j x at e = by (symbol i) refl e
-  where
-    by : (o : Option Symbol) → symbol i ≡ o → spelled_word o i ≡ Ok (x, j) → Made IsWord x j
-    by (Some Word) s h = Makes-pure IsWord (spelling i) (word_is i.text i.left at s) i j x at h
-    by (Some Number) s h = cc
-    by (Some (Sign sign)) s h = cc
-    by (Some Dots) s h = cc
-    by (Some LineEnd) s h = cc
-    by None s h = cc
-
 pub not_false : (b : Bool) → not b ≡ false → b ≡ true
 not_false true h = refl
 not_false false h = absurd (false≢true (sym h))
-
-pub Makes-new_name : (names : Names) → Makes (new_name names) (IsNew names.variables)
-unfolding new_name
-Makes-new_name names =
-    Makes-bind IsWord P (peek >>= spelled_word) _ Makes-spelled (λ text word.
-    Makes-fault_if P (nat_lt 32 (length text)) NameTooLong _ (λ _.
-    Makes-fault_if P (not (is_new text names)) DuplicateName (skip >> pure text) (λ new.
-    Makes-then P skip (pure text) Makes-skip (Makes-pure P text (is_new_gives text names word (not_false (is_new text names) new))))))
-  where
-    P : List ℕ → Type 0
-    P = IsNew names.variables

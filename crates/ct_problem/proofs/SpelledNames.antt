@@ -1,25 +1,29 @@
 -- What is read as the lines of names is spelled so. Main lemma `Goes-declarations`.
-use Rattle.std.proofs.Common.{◌≡◌, ℕ, zero, suc, Bool, true, false, not, cond, List, [], ◌∷◌, ◌++◌, length, nat_lt, Option, Some, None, Ok, refl, sym, ap, ◌∙◌, subst, codes, ltb-false}
+use Rattle.std.proofs.Common.{◌≡◌, ℕ, zero, suc, ◌+◌, ◌≤◌, ◌||◌, Bool, true, false, not, cond, List, [], ◌∷◌, ◌++◌, length, nat_lt, Option, Some, None, Ok, refl, sym, ap, ◌∙◌, subst, codes, arith, ltb-false}
+use Rattle.std.specs.List.{count_by}
 use Rattle.std.proofs.lemmas.Bool.{false≢true}
 use Rattle.std.proofs.lemmas.List.{append_assoc, append-nil}
 use Rattle.ct_token.specs.declared.token.Symbol.{Symbol}
 use Rattle.ct_token.specs.declared.token.Symbol.TheVariants as symbol
-use Rattle.ct_algebra.specs.Actions.{Action, Shift, Derive, Still}
-use Rattle.ct_ore.specs.Naming.{Naming}
+use Rattle.ct_algebra.specs.Actions.{Action, Shift, Derive, Still, by_action}
+use Rattle.ct_ore.specs.Naming.{Naming, has_operator, is_summed}
+use Rattle.ct_ore.specs.declared.algebra.Role.{Role}
 use Rattle.ct_problem.specs.declared.fault.BadKind.TheVariants.{TooMany, Syntax, NameTooLong, DuplicateName}
 use Rattle.ct_problem.specs.declared.reading.declarations.NameLine.{NameLine}
 use Rattle.ct_problem.specs.declared.reading.declarations.NameLine.TheVariants.{Free, Sum, Int, Param}
 use Rattle.ct_problem.specs.Input.{Input, Outcome, Parser, ◌>>=◌, ◌>>◌, and_then, pure, peek, skip, next, eat_word, expect_word, line_end, spelling, sees_word}
 use Rattle.ct_problem.specs.Input as input
-use Rattle.ct_problem.specs.Declarations.{name_line, spelled_word, new_name, free_action, action_of_line, role_of_line, is_full, declared, declaration, declarations_by, full_by, declarations_from, some_names, declarations}
-use Rattle.ct_problem.specs.Names.{Names, is_new}
+use Rattle.ct_problem.specs.Declarations.{name_line, spelled_word, new_name, free_action, action_of_line, role_of_line, is_full, acts_fully, sums_fully, declared, declaration, declarations_by, full_by, declarations_from, some_names, declarations}
+use Rattle.ct_problem.specs.Names.{Names, is_new, summed_texts}
 use Rattle.ct_problem.specs.Number.{fault_if}
 use Rattle.ct_problem.specs.Lexemes.{Lexeme, Word, LineEnd, Texts, nothing, one, optional, ◌▸◌}
 use Rattle.ct_problem.specs.GrammarLets as lets
 use Rattle.ct_problem.specs.GrammarLets.{IsDeclarable}
 use Rattle.ct_problem.specs.GrammarProblem as grammar
+use Rattle.ct_problem.specs.GrammarProblem.{AreFew}
+use Rattle.ct_problem.proofs.AlgebraNames.{operators-more, summed-more}
 use Rattle.ct_problem.proofs.Following.{Follows-next, Follows-then}
-use Rattle.ct_problem.proofs.JoinedTexts.{replaced, nothing_joined}
+use Rattle.ct_problem.proofs.JoinedTexts.{nothing_joined}
 use Rattle.ct_problem.proofs.LexemeSteps.{shown, after_first, sees_word-shown, shown-symbol}
 use Rattle.ct_problem.proofs.NewNames.{not_false}
 use Rattle.ct_problem.proofs.Spelling.{Spells, Continues, Spells-bind, Spells-eat_word, Spells-expect_word, Continues-pure, Continues-bind, taken, after_taken, moved, shows_word-gives}
@@ -100,36 +104,60 @@ Spells-free_action = Spells-bind (optional (Word (codes "shift"))) FreeAction (e
         Continues-bind (λ (_ : Unit {0}). one (Word (codes "diff"))) FreeAction (expect_word (codes "diff")) _ (Spells-expect_word (codes "diff")) (λ _.
         Continues-pure FreeAction Derive (λ ls h. nothing_joined h))
 
--- the line of this name
-Line : List Naming → Naming → Texts
-Line found n = grammar.name_line found n.action n.role n.text
+-- there is room for a name with this action and role
+record HasRoom (found : List Naming) (action : Action) (r : Role) : Type 0 where
+  operators : by_action action true true false ≡ true → count_by has_operator found ≤ 3
+  summed : is_summed r ≡ true → length (summed_texts found) ≤ 2
+
+-- a parameter has no operator
+abbrev Suits : NameLine → Action → Type 0
+Suits Param action = action ≡ Still
+Suits _ action = Unit {0}
+
+neither : (b c : Bool) → (b || c) ≡ false → (b ≡ false) × (c ≡ false)
+neither true c h = absurd (false≢true (sym h))
+neither false true h = absurd (false≢true (sym h))
+neither false false h = (refl, refl)
+
+room_is : (line : NameLine) (found : List Naming) (action : Action) → Suits line action → is_full line found ≡ false → HasRoom found action (role_of_line line)
+unfolding is_full
+room_is Free found action suits h = record { operators = λ _. ltb-false _ _ h; summed = λ e. absurd (false≢true e) }
+room_is Sum found action suits h = let parts = neither (acts_fully found) (sums_fully found) h in record { operators = λ _. ltb-false _ _ parts.0; summed = λ _. ltb-false _ _ parts.1 }
+room_is Int found action suits h = let parts = neither (acts_fully found) (sums_fully found) h in record { operators = λ _. ltb-false _ _ parts.0; summed = λ _. ltb-false _ _ parts.1 }
+room_is Param found action suits h = record { operators = λ e. absurd (false≢true (sym (ap (λ (a : Action). by_action a true true false) suits) ∙ e)); summed = λ e. absurd (false≢true e) }
+
+-- the line of this name, for which there is room
+record Line (found : List Naming) (n : Naming) (ls : List Lexeme) : Type 0 where
+  room : HasRoom found n.action n.role
+  spelled : grammar.name_line found n.action n.role n.text ls
 
 module _ (found : List Naming) (text : List ℕ) where
   Head : NameLine → Texts
   Head line = one (Word (key_of line)) ▸ lets.declared (declared found) text
 
-  ended : (line : NameLine) (D : Texts) (action : Action) → ((ls : List Lexeme) → (D ▸ one LineEnd) ls → Line found (record { text = text; action = action; role = role_of_line line }) ls)
-      → Goes D (line_end >> pure (record { text = text; action = action; role = role_of_line line })) (Line found)
-  ended line D action h =
-      Goes-bind D (λ (_ : Unit {0}). one LineEnd) (Line found) line_end (λ _. pure (record { text = text; action = action; role = role_of_line line })) Goes-line_end (λ _.
-      Goes-pure (D ▸ one LineEnd) (Line found) (record { text = text; action = action; role = role_of_line line }) h)
+  module _ (line : NameLine) (full : is_full line found ≡ false) where
+    ended : (D : Texts) (action : Action) → Suits line action → ((ls : List Lexeme) → (D ▸ one LineEnd) ls → grammar.name_line found action (role_of_line line) text ls)
+        → Goes D (line_end >> pure (record { text = text; action = action; role = role_of_line line })) (Line found)
+    ended D action suits h =
+        Goes-bind D (λ (_ : Unit {0}). one LineEnd) (Line found) line_end (λ _. pure (record { text = text; action = action; role = role_of_line line })) Goes-line_end (λ _.
+        Goes-pure (D ▸ one LineEnd) (Line found) (record { text = text; action = action; role = role_of_line line }) (λ ls k. record { room = room_is line found action suits full; spelled = h ls k }))
 
-  after_text : (line : NameLine) → Goes (Head line) (action_of_line line >>= (λ action. line_end >> pure (record { text = text; action = action; role = role_of_line line }))) (Line found)
-  unfolding FreeAction Head Line
-  after_text Free = Goes-then (Head Free) FreeAction (Line found) free_action _ Spells-free_action by
+  after_text : (line : NameLine) → is_full line found ≡ false → Goes (Head line) (action_of_line line >>= (λ action. line_end >> pure (record { text = text; action = action; role = role_of_line line }))) (Line found)
+  unfolding FreeAction Head
+  after_text Free full = Goes-then (Head Free) FreeAction (Line found) free_action _ Spells-free_action by
     where
       by : (action : Action) → Goes (Head Free ▸ FreeAction action) (line_end >> pure (record { text = text; action = action; role = role_of_line Free })) (Line found)
-      by Shift = ended Free (Head Free ▸ FreeAction Shift) Shift (λ ls h. h)
-      by Derive = ended Free (Head Free ▸ FreeAction Derive) Derive (λ ls h. h)
-      by Still = ended Free (Head Free ▸ FreeAction Still) Still (λ ls h. absurd h.first.second)
-  after_text Sum = ended Sum (Head Sum) Shift (λ ls h. h)
-  after_text Int = ended Int (Head Int) Derive (λ ls h. h)
-  after_text Param = ended Param (Head Param) Still (λ ls h. h)
+      by Shift = ended Free full (Head Free ▸ FreeAction Shift) Shift tt (λ ls h. h)
+      by Derive = ended Free full (Head Free ▸ FreeAction Derive) Derive tt (λ ls h. h)
+      by Still = ended Free full (Head Free ▸ FreeAction Still) Still tt (λ ls h. absurd h.first.second)
+  after_text Sum full = ended Sum full (Head Sum) Shift tt (λ ls h. h)
+  after_text Int full = ended Int full (Head Int) Derive tt (λ ls h. h)
+  after_text Param full = ended Param full (Head Param) Still refl (λ ls h. h)
 
 module _ (found : List Naming) where
-  after_key : (line : NameLine) → Goes (one (Word (key_of line))) (new_name (declared found) >>= (λ text. action_of_line line >>= (λ action. line_end >> pure (record { text = text; action = action; role = role_of_line line })))) (Line found)
+  after_key : (line : NameLine) → is_full line found ≡ false → Goes (one (Word (key_of line))) (new_name (declared found) >>= (λ text. action_of_line line >>= (λ action. line_end >> pure (record { text = text; action = action; role = role_of_line line })))) (Line found)
   unfolding Head
-  after_key line = Goes-then (one (Word (key_of line))) (lets.declared (declared found)) (Line found) (new_name (declared found)) _ (Spells-new_name (declared found)) (λ text. after_text found text line)
+  after_key line full = Goes-then (one (Word (key_of line))) (lets.declared (declared found)) (Line found) (new_name (declared found)) _ (Spells-new_name (declared found)) (λ text. after_text found text line full)
 
   -- a name line, where its first word comes next
   declared_is : (line : NameLine) (i j : Input) (n : Naming) → name_line i ≡ Some line → declaration line found i ≡ Ok (n, j) → Going nothing (Line found n) i j
@@ -138,7 +166,7 @@ module _ (found : List Naming) where
       let rest = test_failed (is_full line found) TooMany _ i j n h in
       let key = key_of line in
       let head = shows_word-gives key (shown i) (sym (sees_word-shown key i) ∙ begins_with i line begins) in
-      let g = after_key line (next i) j n rest.1 in
+      let g = after_key line rest.0 (next i) j n rest.1 in
       record {
         follows = Follows-then i (next i) j (Follows-next i) g.follows;
         spelled = λ before none left.
@@ -148,43 +176,91 @@ module _ (found : List Naming) where
 
 -- ---- the lines
 
--- names after those that were found before
-record MoreNames (found ns : List Naming) (ls : List Lexeme) : Type 0 where
+-- there is room for each of these names, after those before it
+abbrev Rooms : List Naming → List Naming → Type 0
+Rooms found [] = Unit {0}
+Rooms found (n ∷ ns) = HasRoom found n.action n.role × Rooms (found ++ n ∷ []) ns
+
+-- a count that one more name is added to
+counted : (count limit : ℕ) (more : Bool) → count ≤ suc limit → (more ≡ true → count ≤ limit) → count + cond more 1 0 ≤ suc limit
+counted count limit true most room = let h = room refl in omega (arith, h)
+counted count limit false most room = omega (arith, most)
+
+record AreWithin (ns : List Naming) : Type 0 where
+  operators : count_by has_operator ns ≤ 4
+  summed : length (summed_texts ns) ≤ 3
+
+rooms_fit : (found ns : List Naming) → Rooms found ns → AreWithin found → AreWithin (found ++ ns)
+rooms_fit found [] rooms w = subst AreWithin (sym (append-nil found)) w
+rooms_fit found (n ∷ ns) rooms w =
+    let operators = counted (count_by has_operator found) 3 (has_operator n) w.operators rooms.0.operators in
+    let summed = counted (length (summed_texts found)) 2 (is_summed n.role) w.summed rooms.0.summed in
+    subst AreWithin (append_assoc found (n ∷ []) ns)
+    (rooms_fit (found ++ n ∷ []) ns rooms.1 (record { operators = omega (arith, operators-more found n, operators); summed = omega (arith, summed-more found n, summed) }))
+
+-- names after those that were found before, at most so many
+record MoreNames (most : ℕ) (found ns : List Naming) (ls : List Lexeme) : Type 0 where
   more : List Naming
   value : ns ≡ found ++ more
+  few : length more ≤ most
+  rooms : Rooms found more
   spelled : grammar.name_lines found more ls
 
-no_name : (found : List Naming) (ls : List Lexeme) → nothing ls → MoreNames found found ls
-no_name found ls none = record { more = []; value = sym (append-nil found); spelled = none }
+no_name : (most : ℕ) (found : List Naming) (ls : List Lexeme) → nothing ls → MoreNames most found found ls
+no_name most found ls none = record { more = []; value = sym (append-nil found); few = omega arith; rooms = tt; spelled = none }
 
-full_goes : (found : List Naming) (o : Option NameLine) → Goes nothing (full_by found o) (MoreNames found)
-full_goes found None = Goes-pure nothing (MoreNames found) found (no_name found)
-full_goes found (Some line) = Goes-fault_if nothing (MoreNames found) true TooMany (pure found) (λ h. absurd (false≢true (sym h)))
+full_goes : (found : List Naming) (o : Option NameLine) → Goes nothing (full_by found o) (MoreNames 0 found)
+full_goes found None = Goes-pure nothing (MoreNames 0 found) found (no_name 0 found)
+full_goes found (Some line) = Goes-fault_if nothing (MoreNames 0 found) true TooMany (pure found) (λ h. absurd (false≢true (sym h)))
 
-one_name : (n : ℕ) (found : List Naming) → ((x : Naming) → Goes nothing (declarations_from n (found ++ x ∷ [])) (MoreNames (found ++ x ∷ []))) → (x : Naming) → Goes (Line found x) (declarations_from n (found ++ x ∷ [])) (MoreNames found)
-unfolding Line
+-- what is read after these names
+Others : ℕ → List Naming → Type 0
+Others n found = (x : Naming) → Goes nothing (declarations_from n (found ++ x ∷ [])) (MoreNames n (found ++ x ∷ []))
+
+one_name : (n : ℕ) (found : List Naming) → Others n found → (x : Naming) → Goes (Line found x) (declarations_from n (found ++ x ∷ [])) (MoreNames (suc n) found)
+unfolding Others
 one_name n found others x =
-    Goes-as (Line found x) (MoreNames found) (MoreNames (found ++ x ∷ [])) (declarations_from n (found ++ x ∷ [])) (others x) (λ ns ls h. record {
+    Goes-as (Line found x) (MoreNames (suc n) found) (MoreNames n (found ++ x ∷ [])) (declarations_from n (found ++ x ∷ [])) (others x) (λ ns ls h.
+    let few = h.second.few in
+    record {
       more = x ∷ h.second.more;
       value = h.second.value ∙ append_assoc found (x ∷ []) h.second.more;
-      spelled = replaced h h.second.spelled;
+      few = omega (arith, few);
+      rooms = (h.first.room, h.second.rooms);
+      spelled = record { front = h.front; back = h.back; parts = h.parts; first = h.first.spelled; second = h.second.spelled };
     })
 
-line_goes : (n : ℕ) (found : List Naming) → ((x : Naming) → Goes nothing (declarations_from n (found ++ x ∷ [])) (MoreNames (found ++ x ∷ []))) → (i j : Input) (ns : List Naming) (o : Option NameLine) → name_line i ≡ o
-    → declarations_by (λ line. declaration line found >>= (λ naming. declarations_from n (found ++ naming ∷ []))) found o i ≡ Ok (ns, j) → Going nothing (MoreNames found ns) i j
-line_goes n found others i j ns None e h = Goes-pure nothing (MoreNames found) found (no_name found) i j ns h
+line_goes : (n : ℕ) (found : List Naming) → Others n found → (i j : Input) (ns : List Naming) (o : Option NameLine) → name_line i ≡ o
+    → declarations_by (λ line. declaration line found >>= (λ naming. declarations_from n (found ++ naming ∷ []))) found o i ≡ Ok (ns, j) → Going nothing (MoreNames (suc n) found ns) i j
+line_goes n found others i j ns None e h = Goes-pure nothing (MoreNames (suc n) found) found (no_name (suc n) found) i j ns h
 line_goes n found others i j ns (Some line) e h =
-    by_only nothing (Line found) (MoreNames found) (λ naming. declarations_from n (found ++ naming ∷ [])) i j ns (declaration line found i) (λ x k read. declared_is found line i k x e read) (one_name n found others) h
+    by_only nothing (Line found) (MoreNames (suc n) found) (λ naming. declarations_from n (found ++ naming ∷ [])) i j ns (declaration line found i) (λ x k read. declared_is found line i k x e read) (one_name n found others) h
 
-Goes-lines : (n : ℕ) (found : List Naming) → Goes nothing (declarations_from n found) (MoreNames found)
-unfolding declarations_from
-Goes-lines zero found = Goes-seen nothing (MoreNames found) name_line (full_by found) (full_goes found)
+Goes-lines : (n : ℕ) (found : List Naming) → Goes nothing (declarations_from n found) (MoreNames n found)
+unfolding declarations_from Others
+Goes-lines zero found = Goes-seen nothing (MoreNames 0 found) name_line (full_by found) (full_goes found)
 Goes-lines (suc n) found = λ i j ns h. line_goes n found (λ x. Goes-lines n (found ++ x ∷ [])) i j ns (name_line i) refl h
 
-pub Goes-declarations : Goes nothing declarations (grammar.name_lines [])
+-- the lines of as many names as there may be
+pub record FewNames (ns : List Naming) (ls : List Lexeme) : Type 0 where
+  pub few : AreFew ns
+  pub spelled : grammar.name_lines [] ns ls
+
+pub Goes-declarations : Goes nothing declarations FewNames
 unfolding declarations
-Goes-declarations = Goes-first nothing (MoreNames []) (grammar.name_lines []) (declarations_from 6 []) some_names (Goes-lines 6 []) by
+Goes-declarations = Goes-first nothing (MoreNames 6 []) FewNames (declarations_from 6 []) some_names (Goes-lines 6 []) by
   where
-    by : (ns : List Naming) → Goes (MoreNames [] ns) (some_names ns) (grammar.name_lines [])
-    by [] = Goes-fault (MoreNames [] []) (grammar.name_lines []) Syntax
-    by (n ∷ ns) = Goes-pure (MoreNames [] (n ∷ ns)) (grammar.name_lines []) (n ∷ ns) (λ ls h. subst (λ (ms : List Naming). grammar.name_lines [] ms ls) (sym h.value) h.spelled)
+    by : (ns : List Naming) → Goes (MoreNames 6 [] ns) (some_names ns) FewNames
+    by [] = Goes-fault (MoreNames 6 [] []) FewNames Syntax
+    by (n ∷ ns) = Goes-pure (MoreNames 6 [] (n ∷ ns)) FewNames (n ∷ ns) (λ ls h.
+        let few = h.few in
+        let within = rooms_fit [] h.more h.rooms (record { operators = omega arith; summed = omega arith }) in
+        record {
+          few = record {
+            some = omega arith;
+            few = let same = ap length h.value in omega (arith, same, few);
+            few_operators = subst (λ (ms : List Naming). count_by has_operator ms ≤ 4) (sym h.value) within.operators;
+            few_summed = subst (λ (ms : List Naming). length (summed_texts ms) ≤ 3) (sym h.value) within.summed;
+          };
+          spelled = subst (λ (ms : List Naming). grammar.name_lines [] ms ls) (sym h.value) h.spelled;
+        })

@@ -8,10 +8,10 @@ use Rattle.ct_problem.specs.declared.problem.Gens.TheVariants.{Listed, Named}
 use Rattle.ct_problem.specs.declared.problem.Range.{Range}
 use Rattle.ct_problem.specs.Input.{◌>>=◌, ◌>>◌, pure, skip, next, eat_word, line_end, dots, fresh_line}
 use Rattle.ct_problem.specs.Declarations.{declarations}
-use Rattle.ct_problem.specs.DenLines.{den_lines}
+use Rattle.ct_problem.specs.DenLines.{Dens, den_lines}
 use Rattle.ct_problem.specs.GrammarLets as lets
 use Rattle.ct_problem.specs.GrammarProblem as grammar
-use Rattle.ct_problem.specs.GrammarProblem.{AreFew, Says, IsEnd, MayFollow, StandsFor}
+use Rattle.ct_problem.specs.GrammarProblem.{AreFew}
 use Rattle.ct_problem.specs.LetLines.{Definition, with_definitions, let_lines, list_name}
 use Rattle.ct_problem.specs.Lexemes.{Lexeme, Word, Dots, LineEnd, Texts, nothing, one, optional, number, ◌▸◌}
 use Rattle.ct_problem.specs.Lines.{no_more, value_lines}
@@ -20,13 +20,13 @@ use Rattle.ct_problem.specs.Names.{Names}
 use Rattle.ct_problem.specs.Number.{coming_number, fault_if}
 use Rattle.ct_problem.specs.Number as digits
 use Rattle.ct_problem.specs.ProblemLines.{used, listed_or_used, generators, high_number, range, range_line}
-use Rattle.ct_problem.specs.ReadProblem.{head, body}
-use Rattle.ct_problem.proofs.JoinedTexts.{joined_nothing, replaced, nothing_joined}
+use Rattle.ct_problem.specs.ReadProblem.{Reading, head, body}
+use Rattle.ct_problem.proofs.JoinedTexts.{joined_nothing, replaced, nothing_joined, on_first, on_second}
 use Rattle.ct_problem.proofs.Spelling.{Spells, Spells-bind, Spells-eat_word, Continues-pure, Continues-bind, moved}
 use Rattle.ct_problem.proofs.SpelledDens.{Goes-den_lines}
 use Rattle.ct_problem.proofs.SpelledLets.{Spells-list_name, Goes-let_lines}
 use Rattle.ct_problem.proofs.SpelledLines.{Goes-header, Goes-past_test, Goes-value_lines}
-use Rattle.ct_problem.proofs.SpelledNames.{Goes-declarations}
+use Rattle.ct_problem.proofs.SpelledNames.{FewNames, Goes-declarations}
 use Rattle.ct_problem.proofs.SpelledRuns.{Goes, Goes-pure, Goes-bind, Goes-first, Goes-begin, Goes-then, Goes-line_end, Goes-fresh_line}
 use Rattle.ct_problem.proofs.SpelledSteps.{test_failed, Coming-taken, Spells-coming, Spells-dots, Spells-number}
 
@@ -101,29 +101,57 @@ Goes-range_line key limit =
 
 -- ---- the lines before the last one
 
-pub Head : List Naming × List Definition → Texts
-Head h = grammar.header (codes "problem") ▸ grammar.name_lines [] h.0 ▸ lets.let_lines h.0 h.1
+-- the first line, the names, as many as there may be, and the `let` lines
+pub record Head (h : List Naming × List Definition) (ls : List Lexeme) : Type 0 where
+  pub few : AreFew h.0
+  pub spelled : (grammar.header (codes "problem") ▸ grammar.name_lines [] h.0 ▸ lets.let_lines h.0 h.1) ls
 
 pub Goes-head : Goes nothing head Head
-unfolding head Head
+unfolding head
 Goes-head =
     Goes-first nothing (λ (_ : Unit {0}). nothing) Head fresh_line _ Goes-fresh_line (λ _.
     Goes-first nothing (λ (_ : Unit {0}). grammar.header (codes "problem")) Head (read.header (codes "problem")) _ (Goes-header (codes "problem")) (λ _.
-    Goes-bind (grammar.header (codes "problem")) (grammar.name_lines []) Head declarations _ Goes-declarations (λ variables.
-    Goes-bind (grammar.header (codes "problem") ▸ grammar.name_lines [] variables) (lets.let_lines variables) Head (let_lines variables) (λ definitions. pure (variables, definitions)) (Goes-let_lines variables) (λ definitions.
-    Goes-pure (Head (variables, definitions)) Head (variables, definitions) (λ ls h. h)))))
+    Goes-bind (grammar.header (codes "problem")) FewNames Head declarations _ Goes-declarations (λ variables.
+    Goes-bind (grammar.header (codes "problem") ▸ FewNames variables) (lets.let_lines variables) Head (let_lines variables) (λ definitions. pure (variables, definitions)) (Goes-let_lines variables) (λ definitions.
+    Goes-pure (grammar.header (codes "problem") ▸ FewNames variables ▸ lets.let_lines variables definitions) Head (variables, definitions) (λ ls h. record {
+      few = h.first.second.few;
+      spelled = on_first (λ ms. on_second (λ ns k. k.spelled)) h;
+    })))))
 
-pub Goes-body : (h : List Naming × List Definition) → Goes (Head h) (body h.0 h.1) grammar.lines
-unfolding body Head
+-- the lines before the last one, with as many names as there may be
+pub record Before (p : Reading) (ls : List Lexeme) : Type 0 where
+  pub few : AreFew p.variables
+  pub spelled : grammar.lines p ls
+
+pub Goes-body : (h : List Naming × List Definition) → Goes (Head h) (body h.0 h.1) Before
+unfolding body
 Goes-body h =
-    Goes-bind (Head h) (grammar.generators names) grammar.lines (generators names) _ (Goes-generators names) (λ gens.
-    Goes-bind (Head h ▸ grammar.generators names gens) (grammar.den_lines names) grammar.lines (den_lines names) _ (Goes-den_lines names) (λ dens.
-    Goes-bind (Head h ▸ grammar.generators names gens ▸ grammar.den_lines names dens) (grammar.values names (codes "target")) grammar.lines (value_lines names (codes "target")) _ (Goes-value_lines names (codes "target")) (λ targets.
-    Goes-bind (Head h ▸ grammar.generators names gens ▸ grammar.den_lines names dens ▸ grammar.values names (codes "target") targets) (grammar.range_line (codes "order") 8) grammar.lines (range_line (codes "order") 8) _ (Goes-range_line (codes "order") 8) (λ orders.
-    Goes-bind (Head h ▸ grammar.generators names gens ▸ grammar.den_lines names dens ▸ grammar.values names (codes "target") targets ▸ grammar.range_line (codes "order") 8 orders) (grammar.range_line (codes "degree") 12) grammar.lines (range_line (codes "degree") 12)
+    Goes-bind (Head h) G Before (generators names) _ (Goes-generators names) (λ gens.
+    Goes-bind (Head h ▸ G gens) D Before (den_lines names) _ (Goes-den_lines names) (λ dens.
+    Goes-bind (Head h ▸ G gens ▸ D dens) T Before (value_lines names (codes "target")) _ (Goes-value_lines names (codes "target")) (λ targets.
+    Goes-bind (Head h ▸ G gens ▸ D dens ▸ T targets) O Before (range_line (codes "order") 8) _ (Goes-range_line (codes "order") 8) (λ orders.
+    Goes-bind (Head h ▸ G gens ▸ D dens ▸ T targets ▸ O orders) C Before (range_line (codes "degree") 12)
     (λ degrees. pure (record { variables = h.0; definitions = h.1; generators = gens; dens = dens; targets = targets; orders = orders; degrees = degrees })) (Goes-range_line (codes "degree") 12) (λ degrees.
-    Goes-pure (Head h ▸ grammar.generators names gens ▸ grammar.den_lines names dens ▸ grammar.values names (codes "target") targets ▸ grammar.range_line (codes "order") 8 orders ▸ grammar.range_line (codes "degree") 12 degrees) grammar.lines
-    (record { variables = h.0; definitions = h.1; generators = gens; dens = dens; targets = targets; orders = orders; degrees = degrees }) (λ ls k. k))))))
+    Goes-pure (Head h ▸ G gens ▸ D dens ▸ T targets ▸ O orders ▸ C degrees) Before
+    (record { variables = h.0; definitions = h.1; generators = gens; dens = dens; targets = targets; orders = orders; degrees = degrees }) (λ ls k. record {
+      few = k.first.first.first.first.first.few;
+      spelled = on_first (λ a1. on_first (λ a2. on_first (λ a3. on_first (λ a4. on_first (λ a5 m. m.spelled))))) k;
+    }))))))
   where
     names : Names
     names = with_definitions h.0 h.1
+
+    G : Gens → Texts
+    G = grammar.generators names
+
+    D : Dens → Texts
+    D = grammar.den_lines names
+
+    T : List Expr → Texts
+    T = grammar.values names (codes "target")
+
+    O : Option Range → Texts
+    O = grammar.range_line (codes "order") 8
+
+    C : Option Range → Texts
+    C = grammar.range_line (codes "degree") 12

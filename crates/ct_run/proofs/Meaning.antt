@@ -13,6 +13,7 @@ use Rattle.ct_problem.specs.declared.fault.BadInput.{BadInput}
 use Rattle.ct_problem.specs.declared.problem.Gens.{Gens}
 use Rattle.ct_problem.specs.declared.problem.Gens.TheVariants.{Listed, Named}
 use Rattle.ct_problem.specs.declared.report.Report.{Report}
+use Rattle.ct_problem.specs.GrammarReport.{ReportStandsFor}
 use Rattle.ct_problem.specs.ReadProblem.{Reading, problem_of}
 use Rattle.ct_problem.specs.ReadReport.{report_of}
 use Rattle.ct_problem.specs.WellFormed.{IsGens, IsReportOn}
@@ -20,7 +21,7 @@ use Rattle.ct_problem.proofs.SpelledReportTexts.{report_spelled}
 use Rattle.ct_problem.proofs.SpelledTexts.{problem_spelled}
 use Rattle.ct_problem.proofs.SummedActions.{summed_act}
 use Rattle.ct_problem.proofs.WellFormedProblems.{IsReading, reading_is}
-use Rattle.ct_problem.proofs.WellFormedReports.{report_is}
+use Rattle.ct_problem.proofs.WellFormedReports.{report_formed}
 use Rattle.ct_cert.specs.Testing.{Tested, Fails, Overflows}
 use Rattle.ct_cert.specs.Tests.{tests}
 use Rattle.ct_cert.proofs.Passing.{passing_certifies}
@@ -58,8 +59,11 @@ module _ (bytes : List ℕ) where
       names : IsAlgebra p.variables
       names = let made = known in made.names
 
+      says : ReportStandsFor p.variables (length (listed p.generators)) bytes end r
+      says = report_spelled p.variables (length (listed p.generators)) bytes end r few reported
+
       on : IsReportOn p.variables (length (listed p.generators)) r
-      on = report_is p.variables names.few (length (listed p.generators)) bytes end r reported
+      on = report_formed p.variables names.few (length (listed p.generators)) bytes end r says
 
       module _
           (generators : List Operator) (c : Certificate) (valued : checked_setup p ≡ Ok generators)
@@ -70,7 +74,7 @@ module _ (bytes : List ℕ) where
           end = end;
           says_problem = problem_spelled Check bytes (p, end) read;
           report = r;
-          says_report = report_spelled p.variables (length (listed p.generators)) bytes end r few reported;
+          says_report = says;
           generators = generators;
           valued = valued;
           certificate = c;

@@ -7,7 +7,7 @@ use Rattle.ct_problem.proofs.Cursors.{IsCursor-later}
 use Rattle.ct_mono.specs.Limits.{largest_norm}
 use Rattle.ct_problem.proofs.SpelledReportTexts.{report_spelled}
 use Rattle.ct_problem.proofs.TakenReportTexts.{gives_no_report}
-use Rattle.ct_problem.proofs.WellFormedReports.{report_is}
+use Rattle.ct_problem.proofs.WellFormedReports.{report_formed}
 use Rattle.ct_problem.proofs.reading.read_found_report.Goals as goal
 
 pub new-tokens-requires : goal.new-tokens-requires
@@ -20,7 +20,9 @@ unfolding report_of
 returns-in-Ok-clause-formed c =
     let few : length c.args.algebra.now ≤ 6 = rw c.in_ok-names.ensures.names at c.in_ok-names.ensures.few in
     let read : report_of c.args.algebra.now c.args.generators c.args.bytes.now c.args.from ≡ Some c.in-Ok.found = first_of (search rules, grind (arith, common_steps)) in
-    report_is c.args.algebra.now few c.args.generators c.args.bytes.now c.args.from c.in-Ok.found read
+    let low : 1 + c.args.generators ≤ largest_norm = omega (arith, c.ranges.generators.fits) in
+    report_formed c.args.algebra.now few c.args.generators c.args.bytes.now c.args.from c.in-Ok.found
+    (report_spelled c.args.algebra.now c.args.generators c.args.bytes.now c.args.from c.in-Ok.found low read)
 
 pub returns-in-Err-Bad-clause-refuses : goal.returns-in-Err-Bad-clause-refuses
 unfolding report_of
