@@ -1,21 +1,36 @@
 -- A cursor that comes after another: the same text, up to the same place, of whose tokens some were taken.
 --     Follows i j       j comes after i
+--     Settled j         where tokens are left and no line ends, the text goes on to its end: so it is behind a step to a line
+--                       (`fresh_line-settles`), and stays so past what doesn't end a line (`passed`)
 --     used-taken        the lexemes that were taken are those of the tokens that were
-use Rattle.std.proofs.Common.{◌≡◌, ℕ, List, [], ◌∷◌, ◌++◌, refl, sym, ap, ◌∙◌}
+use Rattle.std.proofs.Common.{◌≡◌, ℕ, Bool, true, false, List, [], ◌∷◌, ◌++◌, Option, Some, None, Ok, refl, sym, ap, ◌∙◌}
 use Rattle.std.proofs.lemmas.List.{append_assoc, append_cancel_right}
 use Rattle.ct_token.specs.declared.token.Token.{Token}
-use Rattle.ct_problem.specs.Input.{Input, next, tail}
-use Rattle.ct_problem.specs.Lexemes.{Lexeme, lexemes}
+use Rattle.std.proofs.lemmas.Bool.{false≢true}
+use Rattle.ct_token.specs.Lexical.{is_line_end}
+use Rattle.ct_token.specs.Lexing.{slice}
+use Rattle.ct_token.specs.declared.token.Symbol.{Symbol}
+use Rattle.ct_token.specs.declared.token.Symbol.TheVariants as symbol
+use Rattle.ct_problem.specs.Input.{Input, next, tail, has_line_end, fresh_line, fresh_by}
+use Rattle.ct_problem.specs.Lexemes.{Lexeme, Word, Number, Sign, Dots, LineEnd, lexeme_of, lexemes}
 use Rattle.ct_problem.proofs.LexemeSteps.{shown}
+
+-- tokens are left
+abbrev pub Goes_on : Input → Type 0
+Goes_on j = j.left ≡ [] → ⊥
+
+pub record Settled (j : Input) : Type 0 where
+  pub whole : Goes_on j → has_line_end j.left ≡ false → j.bad ≡ None
 
 pub record Follows (i j : Input) : Type 0 where
   pub same_text : j.text ≡ i.text
   pub same_bad : j.bad ≡ i.bad
   pub front : List Token
   pub parts : i.left ≡ front ++ j.left
+  pub settles : Settled i → Settled j
 
 pub Follows-same : (i : Input) → Follows i i
-Follows-same i = record { same_text = refl; same_bad = refl; front = []; parts = refl }
+Follows-same i = record { same_text = refl; same_bad = refl; front = []; parts = refl; settles = λ s. s }
 
 pub Follows-then : (i j k : Input) → Follows i j → Follows j k → Follows i k
 Follows-then i j k f g = record {
@@ -23,14 +38,56 @@ Follows-then i j k f g = record {
   same_bad = g.same_bad ∙ f.same_bad;
   front = f.front ++ g.front;
   parts = f.parts ∙ ap (λ ts. f.front ++ ts) g.parts ∙ sym (append_assoc f.front g.front k.left);
+  settles = λ s. g.settles (f.settles s);
 }
 
-pub Follows-next : (i : Input) → Follows i (next i)
-Follows-next i = by i.left
+-- ---- steps
+
+pub Follows-next : (i : Input) → (Settled i → Settled (next i)) → Follows i (next i)
+Follows-next i settles = by i.left settles
   where
-    by : (left : List Token) → Follows (record i { left = left }) (record i { left = tail left })
-    by [] = record { same_text = refl; same_bad = refl; front = []; parts = refl }
-    by (t ∷ ts) = record { same_text = refl; same_bad = refl; front = t ∷ []; parts = refl }
+    by : (left : List Token) → (Settled (record i { left = left }) → Settled (record i { left = tail left })) → Follows (record i { left = left }) (record i { left = tail left })
+    by [] s = record { same_text = refl; same_bad = refl; front = []; parts = refl; settles = s }
+    by (t ∷ ts) s = record { same_text = refl; same_bad = refl; front = t ∷ []; parts = refl; settles = s }
+
+abbrev pub ends_line : Lexeme → Bool
+ends_line LineEnd = true
+ends_line (Word w) = false
+ends_line (Number n) = false
+ends_line (Sign s) = false
+ends_line Dots = false
+
+symbol_ends : (s : Symbol) (bytes : List ℕ) → is_line_end s ≡ ends_line (lexeme_of s bytes)
+symbol_ends symbol.Word bytes = refl
+symbol_ends symbol.Number bytes = refl
+symbol_ends (symbol.Sign s) bytes = refl
+symbol_ends symbol.Dots bytes = refl
+symbol_ends symbol.LineEnd bytes = refl
+
+pub passed : (i : Input) (l : Lexeme) (rest : List Lexeme) → shown i ≡ l ∷ rest → ends_line l ≡ false → Settled i → Settled (next i)
+unfolding has_line_end
+passed i l rest head plain s = record { whole = by i.left head s.whole }
+  where
+    by : (left : List Token) → lexemes i.text left ≡ l ∷ rest → ((left ≡ [] → ⊥) → has_line_end left ≡ false → i.bad ≡ None) → (tail left ≡ [] → ⊥) → has_line_end (tail left) ≡ false → i.bad ≡ None
+    by [] e whole some none = cc
+    by (t ∷ ts) e whole some none =
+        let first : lexeme_of t.symbol (slice t.from t.to i.text) ≡ l = cc in
+        let other : is_line_end t.symbol ≡ false = symbol_ends t.symbol (slice t.from t.to i.text) ∙ ap ends_line first ∙ plain in
+        whole (λ empty. cc) (rw other none)
+
+-- past a lexeme that doesn't end a line
+pub Follows-past : (i : Input) (l : Lexeme) (rest : List Lexeme) → shown i ≡ l ∷ rest → ends_line l ≡ false → Follows i (next i)
+Follows-past i l rest head plain = Follows-next i (passed i l rest head plain)
+
+fresh_of : (i j : Input) (x : Unit {0}) (b : Bool) (o : Option ℕ) → has_line_end i.left ≡ b → i.bad ≡ o → fresh_by b o i ≡ Ok (x, j) → (i ≡ j) × Settled i
+fresh_of i j x true o e f h = let pairs : ◌≡◌ {A = Unit {0} × Input} (tt, i) (x, j) = cc in (ap (λ (r : Unit {0} × Input). r.1) pairs, record { whole = λ left none. absurd (false≢true (sym none ∙ e)) })
+fresh_of i j x false None e f h = let pairs : ◌≡◌ {A = Unit {0} × Input} (tt, i) (x, j) = cc in (ap (λ (r : Unit {0} × Input). r.1) pairs, record { whole = λ left none. f })
+fresh_of i j x false (Some at) e f h = cc
+
+-- a step to a line takes nothing
+pub fresh_line-settles : (i j : Input) (x : Unit {0}) → fresh_line i ≡ Ok (x, j) → (i ≡ j) × Settled i
+unfolding fresh_line
+fresh_line-settles i j x h = fresh_of i j x (has_line_end i.left) i.bad refl refl h
 
 -- ---- lexemes
 

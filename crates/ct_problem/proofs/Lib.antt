@@ -32,7 +32,6 @@ pub mod SpelledLines
 pub mod SpelledNames
 pub mod SpelledLets
 pub mod SpelledDens
-pub mod SettledLines
 pub mod SpelledEnds
 pub mod SpelledTexts
 pub mod SpelledProblems

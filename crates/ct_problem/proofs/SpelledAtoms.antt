@@ -74,7 +74,7 @@ module _ (names : Names) (operators : Bool) where
           moved (Acts action) i (e.Symbol at) x (next i) j h
           (Spelled-as (one (Word (spelling i))) (Acts action (e.Symbol at)) i (next i)
           (λ ls u. record { letters = spelling i; at = at; acting = record { first = variable-known (spelling i) at names found; acts = acts }; value = refl; spelled = u })
-          (taken (Word (spelling i)) i (shown-symbol i symbol.Word is_word)))
+          (taken (Word (spelling i)) i refl (shown-symbol i symbol.Word is_word)))
       by false acts h = cc
   acting_name action i j x is_word (Let at) found h = cc
   acting_name action i j x is_word Unknown found h = cc
@@ -107,7 +107,7 @@ module _ (names : Names) (operators : Bool) where
   unfolding symbol_by Symbolic
   symbol_is action w i j x is_word same h =
       let head = subst (λ (letters : List ℕ). shown i ≡ Word letters ∷ after_first (shown i)) same (shown-symbol i symbol.Word is_word) in
-      after_taken (Word w) (Symbolic action w x) i j head
+      after_taken (Word w) (Symbolic action w x) i j refl head
       (Continues-symbol action w (next i) j x (Word w ∷ []) refl h)
 
   module _ (inner : Parser Expr) (InParentheses : Expr → Texts)
@@ -138,7 +138,7 @@ module _ (names : Names) (operators : Bool) where
             moved Atom i (e.Name at) x (next i) j h
             (Spelled-as (one (Word (spelling i))) (Atom (e.Name at)) i (next i)
             (λ ls u. IsAtom.variable (spelling i) at (record { no_shift = no_shift; no_derivation = no_derivation; first = variable-known (spelling i) at names found }) refl u)
-            (taken (Word (spelling i)) i (shown-symbol i symbol.Word is_word)))
+            (taken (Word (spelling i)) i refl (shown-symbol i symbol.Word is_word)))
         by (Let at) found h = cc
         by Unknown found h = cc
 

@@ -15,7 +15,7 @@ use Rattle.ct_problem.specs.GrammarProblem.{IsSummed, value}
 use Rattle.ct_problem.specs.Lines.{no_more}
 use Rattle.ct_problem.specs.Lines as read
 use Rattle.ct_problem.specs.Names.{Names, known, summed_texts}
-use Rattle.ct_problem.proofs.Following.{Follows-next, Follows-then}
+use Rattle.ct_problem.proofs.Following.{Follows-past, Follows-then}
 use Rattle.ct_problem.proofs.JoinedTexts.{nothing_joined}
 use Rattle.ct_problem.proofs.KnownNames.{variable-known}
 use Rattle.ct_problem.proofs.LexemeSteps.{shown, sees_word-shown, shown-symbol}
@@ -29,7 +29,7 @@ module _ (names : Names) where
   summed_if : (i j : Input) (at n : ℕ) → input.symbol i ≡ Some symbol.Word → known (spelling i) names ≡ Variable n → (b : Bool) → is_summed_name (slice_get names.variables n) ≡ b
       → cond {A = Parser ℕ} b (skip >> pure n) (fault WrongKind) i ≡ Ok (at, j) → Spelled (grammar.summed names at) i j
   summed_if i j at n word e true is h =
-      let s = taken (Word (spelling i)) i (shown-symbol i symbol.Word word) in
+      let s = taken (Word (spelling i)) i refl (shown-symbol i symbol.Word word) in
       let named : IsSummed names (spelling i) n = record { first = variable-known (spelling i) n names e; summed = is } in
       moved (grammar.summed names) i n at (next i) j h (record { used = s.used; parts = s.parts; spells = record { letters = spelling i; named = named; spelled = s.spells }; follows = s.follows })
   summed_if i j at n word e false is h = cc
@@ -77,9 +77,9 @@ module _ (names : Names) where
       let head = shows_word-gives (codes "den") (shown i) (sym (sees_word-shown (codes "den") i) ∙ begins) in
       let g = after_key found (place i) (next i) j after h in
       record {
-        follows = Follows-then i (next i) j (Follows-next i) g.follows;
+        follows = Follows-then i (next i) j (Follows-past i (Word (codes "den")) _ head refl) g.follows;
         spelled = λ before none left.
-            let t = after_taken (Word (codes "den")) (OneDen found after) i j head (g.spelled (Word (codes "den") ∷ []) refl left) in
+            let t = after_taken (Word (codes "den")) (OneDen found after) i j refl head (g.spelled (Word (codes "den") ∷ []) refl left) in
             record { used = t.used; parts = t.parts; spells = subst (λ (ls : List Lexeme). OneDen found after (ls ++ t.used)) (sym none) t.spells; follows = t.follows };
       }
 

@@ -16,7 +16,7 @@ use Rattle.ct_problem.specs.Number.{fault_if}
 use Rattle.ct_problem.specs.ReadProblem.{Reading, lacks, has_needs, ending, ending_by, nothing_left, trailing_by, behind_end, last_line}
 use Rattle.ct_problem.proofs.LexemeSteps.{sees_word-shown}
 use Rattle.ct_problem.proofs.NewNames.{not_false}
-use Rattle.ct_problem.proofs.SettledLines.{Settled}
+use Rattle.ct_problem.proofs.Following.{Settled}
 use Rattle.ct_problem.proofs.Spelling.{shows_word-gives}
 use Rattle.ct_problem.proofs.SpelledSteps.{test_failed}
 

@@ -203,7 +203,7 @@ module _ (names : Names) (operators : Bool) where
   unfolding nested IsNested Within
   opens_nested zero i j x is_open h = cc
   opens_nested (suc depth) i j x is_open h =
-      after_taken (Sign 40) (Within depth x) i j (shown-symbol i (symbol.Sign 40) is_open)
+      after_taken (Sign 40) (Within depth x) i j refl (shown-symbol i (symbol.Sign 40) is_open)
       (inside depth (Spells-sum (nested names operators depth) (IsNested names operators depth) (opens_nested depth)) (next i) j x (Sign 40 ∷ []) refl h)
 
   pub Spells-expression : Spells (expression names operators) (IsExpression names operators)

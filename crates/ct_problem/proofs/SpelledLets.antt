@@ -47,7 +47,7 @@ let_known letters names at e = by (position (is_named letters) names.variables) 
 module _ (names : Names) where
   list_is : (i j : Input) (at : ℕ) → input.symbol i ≡ Some symbol.Word → (k : Known) → known (spelling i) names ≡ k → list_by names k i ≡ Ok (at, j) → Spelled (lets.list names at) i j
   list_is i j at word (Let n) e h =
-      let s = taken (Word (spelling i)) i (shown-symbol i symbol.Word word) in
+      let s = taken (Word (spelling i)) i refl (shown-symbol i symbol.Word word) in
       moved (lets.list names) i n at (next i) j h (record { used = s.used; parts = s.parts; spells = record { letters = spelling i; named = let_known (spelling i) names n e; spelled = s.spells }; follows = s.follows })
   list_is i j at word (Variable n) e h = cc
   list_is i j at word Unknown e h = cc
@@ -167,7 +167,7 @@ module _ (names : Names) where
       by (Some word) s h =
           let key = word_of word in
           let head = shows_word-gives key (shown i) (sym (sees_word-shown key i) ∙ begins_with i word s) in
-          after_taken (Word key) (Form f) i j head (after_word word (next i) j f (Word key ∷ []) refl h)
+          after_taken (Word key) (Form f) i j refl head (after_word word (next i) j f (Word key ∷ []) refl h)
 
   pub Goes-definition : Goes (one (Word (codes "let"))) (definition names) (lets.let_line names)
   unfolding definition Form

@@ -22,7 +22,7 @@ use Rattle.ct_problem.specs.GrammarLets.{IsDeclarable}
 use Rattle.ct_problem.specs.GrammarProblem as grammar
 use Rattle.ct_problem.specs.GrammarProblem.{AreFew}
 use Rattle.ct_problem.proofs.AlgebraNames.{operators-more, summed-more}
-use Rattle.ct_problem.proofs.Following.{Follows-next, Follows-then}
+use Rattle.ct_problem.proofs.Following.{Follows-past, Follows-then}
 use Rattle.ct_problem.proofs.JoinedTexts.{nothing_joined}
 use Rattle.ct_problem.proofs.LexemeSteps.{shown, after_first, sees_word-shown, shown-symbol}
 use Rattle.ct_problem.proofs.NewNames.{not_false}
@@ -58,7 +58,7 @@ Spells-new_name names i j x e =
     let fits : IsDeclarable names r.value = record { short = ltb-false 32 (length r.value) long.0; other = not_false (is_new r.value names) old.0 } in
     let here : (skip >> pure r.value) i ≡ Ok (x, j) = subst (λ (k : Input). (skip >> pure r.value) k ≡ Ok (x, j)) (sym w.stays) old.1 in
     let shows : shown i ≡ Word r.value ∷ after_first (shown i) = shown-symbol i symbol.Word w.is_word ∙ ap (λ (text : List ℕ). Word text ∷ after_first (shown i)) w.letters in
-    let s = taken (Word r.value) i shows in
+    let s = taken (Word r.value) i refl shows in
     moved (lets.declared names) i r.value x (next i) j here (record { used = s.used; parts = s.parts; spells = (fits, s.spells); follows = s.follows })
   where
     unless_old : List ℕ → Parser (List ℕ)
@@ -168,9 +168,9 @@ module _ (found : List Naming) where
       let head = shows_word-gives key (shown i) (sym (sees_word-shown key i) ∙ begins_with i line begins) in
       let g = after_key line rest.0 (next i) j n rest.1 in
       record {
-        follows = Follows-then i (next i) j (Follows-next i) g.follows;
+        follows = Follows-then i (next i) j (Follows-past i (Word key) _ head refl) g.follows;
         spelled = λ before none left.
-            let t = after_taken (Word key) (Line found n) i j head (g.spelled (Word key ∷ []) refl left) in
+            let t = after_taken (Word key) (Line found n) i j refl head (g.spelled (Word key ∷ []) refl left) in
             record { used = t.used; parts = t.parts; spells = subst (λ (ls : List Lexeme). Line found n (ls ++ t.used)) (sym none) t.spells; follows = t.follows };
       }
 

@@ -23,12 +23,12 @@ use Rattle.ct_problem.specs.Plain.{is_plain}
 use Rattle.ct_problem.specs.ReadProblem.{input_of_scan}
 use Rattle.ct_problem.specs.ReadReport.{found, report_of}
 use Rattle.ct_problem.specs.ReportLines as rules
-use Rattle.ct_problem.proofs.Following.{Follows, Follows-same, Follows-then, used-taken}
+use Rattle.ct_problem.proofs.Following.{Goes_on, Follows, Follows-same, Follows-then, used-taken}
 use Rattle.ct_problem.proofs.JoinedTexts.{joined, nothing_joined, on_first, replaced}
 use Rattle.ct_problem.proofs.LexemeSteps.{shown}
 use Rattle.ct_problem.proofs.Spelling.{Spelled, Spells-expect_word}
 use Rattle.ct_problem.proofs.SpelledLines.{Goes-header, Goes-keyed}
-use Rattle.ct_problem.proofs.SpelledRuns.{Goes, Goes_on, Goes-as, goes_on_before}
+use Rattle.ct_problem.proofs.SpelledRuns.{Goes, Goes-as, goes_on_before}
 use Rattle.ct_problem.proofs.SpelledSteps.{first_read, LineEnded, line_end-gives}
 use Rattle.ct_problem.proofs.SpelledReports.{Place, AreCofactors, MoreWith, all_with, Goes-found_line, Goes-quotients, Goes-factors, Goes-cofactors}
 use Rattle.ct_problem.proofs.PlainEnds.{plain_is_lexical, no_word_is_last}

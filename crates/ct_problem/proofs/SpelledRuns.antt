@@ -10,15 +10,11 @@ use Rattle.ct_problem.specs.declared.fault.BadKind.{BadKind}
 use Rattle.ct_problem.specs.Input.{Input, Outcome, Parser, ◌>>=◌, ◌>>◌, and_then, pure, look, fault, fresh_line, line_end}
 use Rattle.ct_problem.specs.Lexemes.{Lexeme, LineEnd, Texts, nothing, one, ◌▸◌}
 use Rattle.ct_problem.specs.Number.{fault_if}
-use Rattle.ct_problem.proofs.Following.{Follows, Follows-same, Follows-then}
+use Rattle.ct_problem.proofs.Following.{Goes_on, Follows, Follows-same, Follows-then, fresh_line-settles}
 use Rattle.ct_problem.proofs.JoinedTexts.{joined, nothing_joined}
 use Rattle.ct_problem.proofs.LexemeSteps.{shown}
 use Rattle.ct_problem.proofs.Spelling.{Spelled, Spells}
-use Rattle.ct_problem.proofs.SpelledSteps.{LineEnded, line_end-gives, fresh_line-stays}
-
--- tokens are left
-abbrev pub Goes_on : Input → Type 0
-Goes_on j = j.left ≡ [] → ⊥
+use Rattle.ct_problem.proofs.SpelledSteps.{LineEnded, line_end-gives}
 
 pub record Going (D L : Texts) (i j : Input) : Type 0 where
   pub follows : Follows i j
@@ -173,7 +169,7 @@ Goes-line_end i j x e = by (line_end-gives i j x e)
 
 pub Goes-fresh_line : Goes nothing fresh_line (λ _. nothing)
 Goes-fresh_line i j x e =
-    let same = fresh_line-stays i j x e in
+    let same = (fresh_line-settles i j x e).0 in
     record {
       follows = subst (λ (k : Input). Follows i k) same (Follows-same i);
       spelled = λ before none left. subst (λ (k : Input). Spelled (λ used. nothing (before ++ used)) i k) same (record { used = []; parts = refl; spells = subst (λ (ls : List Lexeme). nothing ls) (sym (append-nil before)) none; follows = Follows-same i });

@@ -15,7 +15,8 @@ use Rattle.ct_problem.specs.Number as digits
 use Rattle.ct_problem.specs.Number.{fault_if, coming_number}
 use Rattle.ct_problem.specs.Lexemes.{Number, Dots, LineEnd, Texts, one, number, decimal}
 use Rattle.ct_problem.proofs.LexemeSteps.{shown, after_first, shown-symbol, value_of-decimal}
-use Rattle.ct_problem.proofs.Spelling.{Spelled, Spells, Spelled-as, moved, taken}
+use Rattle.ct_problem.proofs.Spelling.{Spelled, Spells, Spelled-as, moved, taken, taken_so}
+use Rattle.ct_problem.proofs.Following.{fresh_line-settles}
 
 -- ---- the ends of lines
 
@@ -26,24 +27,14 @@ pub data LineEnded (i j : Input) : Type 0 where
 stays : (i j : Input) (x : Unit {0}) → ◌≡◌ {A = Outcome (Unit {0})} (Ok (tt, i)) (Ok (x, j)) → i ≡ j
 stays i j x e = let pairs : ◌≡◌ {A = Unit {0} × Input} (tt, i) (x, j) = cc in ap (λ (r : Unit {0} × Input). r.1) pairs
 
-fresh_of : (has_end : Bool) (bad : Option ℕ) (i j : Input) (x : Unit {0}) → fresh_by has_end bad i ≡ Ok (x, j) → i ≡ j
-fresh_of true bad i j x e = stays i j x e
-fresh_of false None i j x e = stays i j x e
-fresh_of false (Some place) i j x e = cc
-
--- a step to a line takes nothing
-pub fresh_line-stays : (i j : Input) (x : Unit {0}) → fresh_line i ≡ Ok (x, j) → i ≡ j
-unfolding fresh_line
-fresh_line-stays i j x e = fresh_of (has_line_end i.left) i.bad i j x e
-
 none_left : (left : List Token) → input.symbol_of left ≡ None → left ≡ []
 none_left [] e = refl
 none_left (t ∷ ts) e = cc
 
 line_end_of : (i j : Input) (x : Unit {0}) → (o : Option Symbol) → input.symbol i ≡ o → line_end_by o i ≡ Ok (x, j) → LineEnded i j
 line_end_of i j x (Some symbol.LineEnd) e h =
-    let same = fresh_line-stays (next i) j x h in
-    LineEnded.ended (subst (λ (k : Input). Spelled (one LineEnd) i k) same (taken LineEnd i (shown-symbol i symbol.LineEnd e)))
+    let fresh = fresh_line-settles (next i) j x h in
+    LineEnded.ended (subst (λ (k : Input). Spelled (one LineEnd) i k) fresh.0 (taken_so LineEnd i (shown-symbol i symbol.LineEnd e) (λ s. fresh.1)))
 line_end_of i j x (Some symbol.Word) e h = cc
 line_end_of i j x (Some symbol.Number) e h = cc
 line_end_of i j x (Some (symbol.Sign s)) e h = cc
@@ -57,7 +48,7 @@ line_end-gives i j x e = line_end_of i j x (input.symbol i) refl e
 -- ---- `..`
 
 dots_of : (i j : Input) (x : Unit {0}) → (o : Option Symbol) → input.symbol i ≡ o → dots_by o i ≡ Ok (x, j) → Spelled (one Dots) i j
-dots_of i j x (Some symbol.Dots) e h = moved (λ (_ : Unit {0}). one Dots) i tt x (next i) j h (taken Dots i (shown-symbol i symbol.Dots e))
+dots_of i j x (Some symbol.Dots) e h = moved (λ (_ : Unit {0}). one Dots) i tt x (next i) j h (taken Dots i refl (shown-symbol i symbol.Dots e))
 dots_of i j x (Some symbol.Word) e h = cc
 dots_of i j x (Some symbol.Number) e h = cc
 dots_of i j x (Some (symbol.Sign s)) e h = cc
@@ -97,7 +88,7 @@ past_digits i n d small =
     let low : largest_norm ≤ largest_norm = omega arith in
     let within : digits.value_of (spelling i) ≤ largest_norm = rw (d.value) small in
     let exact : decimal (spelling i) ≡ n = value_of-decimal largest_norm (spelling i) low within ∙ d.value in
-    taken (Number n) i (shows ∙ ap (λ (m : ℕ). Number m ∷ after_first (shown i)) exact)
+    taken (Number n) i refl (shows ∙ ap (λ (m : ℕ). Number m ∷ after_first (shown i)) exact)
 
 pub record Coming (i : Input) (n : ℕ) : Type 0 where
   pub is_number : input.symbol i ≡ Some symbol.Number

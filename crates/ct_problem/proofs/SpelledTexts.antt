@@ -7,20 +7,19 @@ use Rattle.ct_token.specs.declared.token.Token.{Token}
 use Rattle.ct_ore.specs.Naming.{Naming}
 use Rattle.ct_problem.specs.declared.fault.ReadFault.{ReadFault}
 use Rattle.ct_problem.specs.declared.problem.Problem.{Problem}
-use Rattle.ct_problem.specs.Input.{Input, Outcome, ◌>>=◌, and_then, pure}
+use Rattle.ct_problem.specs.Input.{Input, Outcome, fresh_line, ◌>>=◌, and_then, pure}
 use Rattle.ct_problem.specs.GrammarProblem.{Says, StandsFor, IsEnd, MayFollow}
 use Rattle.ct_problem.specs.GrammarProblem as grammar
 use Rattle.ct_problem.specs.LetLines.{Definition}
 use Rattle.ct_problem.specs.Lexemes.{Word, nothing, one, ◌▸◌, lexemes}
 use Rattle.ct_problem.specs.Limits.{most_bytes}
 use Rattle.ct_problem.specs.ReadProblem.{Reading, has_needs, head, body, last_line, problem, problem_of, value_of, input_of_scan, too_long, reading_of, Gives}
-use Rattle.ct_problem.proofs.Following.{lexemes-append, used-taken}
+use Rattle.ct_problem.proofs.Following.{Goes_on, Settled, lexemes-append, used-taken, fresh_line-settles}
 use Rattle.ct_problem.proofs.JoinedTexts.{joined}
-use Rattle.ct_problem.proofs.SettledLines.{Settled, Settling-head, Settles-body}
 use Rattle.ct_problem.proofs.Spelling.{Spelled}
 use Rattle.ct_problem.proofs.SpelledEnds.{Last, last_is}
 use Rattle.ct_problem.proofs.SpelledProblems.{Head, Before, Goes-head, Goes-body}
-use Rattle.ct_problem.proofs.SpelledRuns.{Goes, Goes_on, Goes-first}
+use Rattle.ct_problem.proofs.SpelledRuns.{Goes, Goes-first}
 use Rattle.ct_problem.proofs.SpelledSteps.{first_read}
 
 -- the lines before the last one
@@ -54,6 +53,11 @@ tokens_are command p i k at s l =
       behind = l.behind;
     }
 
+-- the first line is stepped to
+head_settles : (i j : Input) (h : List Naming × List Definition) → head i ≡ Ok (h, j) → Settled i
+unfolding head
+head_settles i j h e = let f = first_read fresh_line _ i j h e in (fresh_line-settles i f.left f.value f.first).1
+
 pub problem_is : (command : Command) (i j : Input) (r : Reading × ℕ) → problem command i ≡ Ok (r, j) → IsRead command r.0 i r.1
 unfolding problem
 problem_is command i j r e =
@@ -63,7 +67,7 @@ problem_is command i j r e =
     let pairs : ◌≡◌ {A = (Reading × ℕ) × Input} ((g.value, h.value), h.left) (r, j) = cc (h.second) in
     let whole : (head >>= (λ names. body names.0 names.1)) i ≡ Ok (g.value, g.left) = ap (λ (o : Outcome (List Naming × List Definition)). and_then o (λ names. body names.0 names.1)) f.first ∙ g.first in
     let going = Goes-lines i g.left g.value whole in
-    let settled : Settled g.left = Settles-body f.value.0 f.value.1 f.left g.left g.value (Settling-head i f.left f.value f.first) g.first in
+    let settled : Settled g.left = going.follows.settles (head_settles i f.left f.value f.first) in
     let last = last_is command g.value g.left.text g.left.bad h.value h.left g.left.left settled h.first in
     let some : Goes_on g.left = λ none. cc (none, last.parts) in
     let s = going.spelled [] refl some in

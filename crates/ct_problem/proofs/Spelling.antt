@@ -12,7 +12,7 @@ use Rattle.ct_problem.specs.Input.{Input, Outcome, Parser, ◌>>=◌, and_then, 
 use Rattle.ct_problem.specs.Lexemes.{Lexeme, Word, Number, Sign, Dots, LineEnd, Texts, one, optional, ◌▸◌}
 use Rattle.ct_problem.proofs.LexemeSteps.{shown, shows_sign, shows_word, after_first, sees-shown, sees_word-shown, shown-next}
 use Rattle.ct_problem.proofs.JoinedTexts.{joined}
-use Rattle.ct_problem.proofs.Following.{Follows, Follows-same, Follows-then, Follows-next}
+use Rattle.ct_problem.proofs.Following.{Follows, Settled, Follows-same, Follows-then, Follows-next, ends_line, passed}
 
 pub record Spelled (L : Texts) (i j : Input) : Type 0 where
   pub used : List Lexeme
@@ -96,13 +96,17 @@ module _ {A B : Type 0} (M : A → Texts) (L : B → Texts) where
 -- ---- the steps on lexemes
 
 -- a lexeme is taken
-pub taken : (l : Lexeme) (i : Input) → shown i ≡ l ∷ after_first (shown i) → Spelled (one l) i (next i)
-taken l i e = record { used = l ∷ []; parts = e ∙ ap (λ ls. l ∷ ls) (sym (shown-next i)); spells = refl; follows = Follows-next i }
+pub taken_so : (l : Lexeme) (i : Input) → shown i ≡ l ∷ after_first (shown i) → (Settled i → Settled (next i)) → Spelled (one l) i (next i)
+taken_so l i e settles = record { used = l ∷ []; parts = e ∙ ap (λ ls. l ∷ ls) (sym (shown-next i)); spells = refl; follows = Follows-next i settles }
+
+-- the same, where it doesn't end a line
+pub taken : (l : Lexeme) (i : Input) → ends_line l ≡ false → shown i ≡ l ∷ after_first (shown i) → Spelled (one l) i (next i)
+taken l i plain e = taken_so l i e (passed i l (after_first (shown i)) e plain)
 
 -- what goes on after a lexeme that was taken
-pub after_taken : (l : Lexeme) (L : Texts) (i j : Input) → shown i ≡ l ∷ after_first (shown i) → Spelled (λ used. L (l ∷ used)) (next i) j → Spelled L i j
-unfolding taken
-after_taken l L i j e s = Spelled-then (one l) L i (next i) j (taken l i e) s
+pub after_taken : (l : Lexeme) (L : Texts) (i j : Input) → ends_line l ≡ false → shown i ≡ l ∷ after_first (shown i) → Spelled (λ used. L (l ∷ used)) (next i) j → Spelled L i j
+unfolding taken taken_so
+after_taken l L i j plain e s = Spelled-then (one l) L i (next i) j (taken l i plain e) s
 
 shows_sign-gives : (s : ℕ) (ls : List Lexeme) → shows_sign s ls ≡ true → ls ≡ Sign s ∷ after_first ls
 shows_sign-gives s [] h = absurd (false≢true h)
@@ -120,17 +124,17 @@ shows_word-gives w (Number n ∷ ls) h = absurd (false≢true h)
 shows_word-gives w (Dots ∷ ls) h = absurd (false≢true h)
 shows_word-gives w (LineEnd ∷ ls) h = absurd (false≢true h)
 
-past_shown : (l : Lexeme) (found : Bool) (i : Input) → (found ≡ true → shown i ≡ l ∷ after_first (shown i)) → Spelled (optional l found) i (past found i)
-past_shown l true i h = taken l i (h refl)
-past_shown l false i h = record { used = []; parts = refl; spells = refl; follows = Follows-same i }
+past_shown : (l : Lexeme) (found : Bool) (i : Input) → ends_line l ≡ false → (found ≡ true → shown i ≡ l ∷ after_first (shown i)) → Spelled (optional l found) i (past found i)
+past_shown l true i plain h = taken l i plain (h refl)
+past_shown l false i plain h = record { used = []; parts = refl; spells = refl; follows = Follows-same i }
 
 pub Spells-eat : (s : ℕ) → Spells (eat s) (optional (Sign s))
 unfolding eat
-Spells-eat s i j b e = moved (optional (Sign s)) i (sees s i) b (past (sees s i) i) j e (past_shown (Sign s) (sees s i) i (λ h. shows_sign-gives s (shown i) (sym (sees-shown s i) ∙ h)))
+Spells-eat s i j b e = moved (optional (Sign s)) i (sees s i) b (past (sees s i) i) j e (past_shown (Sign s) (sees s i) i refl (λ h. shows_sign-gives s (shown i) (sym (sees-shown s i) ∙ h)))
 
 pub Spells-eat_word : (w : List ℕ) → Spells (eat_word w) (optional (Word w))
 unfolding eat_word
-Spells-eat_word w i j b e = moved (optional (Word w)) i (sees_word w i) b (past (sees_word w i) i) j e (past_shown (Word w) (sees_word w i) i (λ h. shows_word-gives w (shown i) (sym (sees_word-shown w i) ∙ h)))
+Spells-eat_word w i j b e = moved (optional (Word w)) i (sees_word w i) b (past (sees_word w i) i) j e (past_shown (Word w) (sees_word w i) i refl (λ h. shows_word-gives w (shown i) (sym (sees_word-shown w i) ∙ h)))
 
 required_is : (l : Lexeme) (found : Bool) → Continues (optional l found) (required found) (λ _. one l)
 required_is l true = Continues-pure (λ _. one l) tt (λ ls h. h)

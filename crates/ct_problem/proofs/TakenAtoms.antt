@@ -21,9 +21,8 @@ use Rattle.ct_problem.proofs.JoinedTexts.{joined_to_right, to_nothing}
 use Rattle.ct_problem.proofs.KnownNames.{known-variable}
 use Rattle.ct_problem.proofs.LexemeStarts.{AfterAtom}
 use Rattle.ct_problem.proofs.LexemeSteps.{shown, shows_word, sees_word-shown}
-use Rattle.ct_problem.proofs.Following.{Follows-next}
-use Rattle.ct_problem.proofs.ShownSymbols.{shows_a_word, shows_a_number, shows_a_sign, spelling-shown, next-shown, unequal_words}
-use Rattle.ct_problem.proofs.Taking.{Taken, Takes, anywhere, Takes-as, Takes-to_right, Takes-then, Takes-next, Takes-last, Takes-skip, Takes-eat, Takes-no_sign, Takes-expect, Takes-fault_if}
+use Rattle.ct_problem.proofs.ShownSymbols.{shows_a_word, shows_a_number, shows_a_sign, spelling-shown, unequal_words}
+use Rattle.ct_problem.proofs.Taking.{Taken-next, Taken, Takes, anywhere, Takes-as, Takes-to_right, Takes-then, Takes-next, Takes-last, Takes-skip, Takes-eat, Takes-no_sign, Takes-expect, Takes-fault_if}
 use Rattle.ct_problem.proofs.TakenSteps.{Takes-coming}
 
 -- the name that the next word names
@@ -36,14 +35,14 @@ module _ (bad : Option ℕ) where
   Takes-whole : (n : ℕ) → Takes bad whole n (number largest_norm n) anywhere
   unfolding whole
   Takes-whole n i used rest here e u after =
-      Takes-coming bad n n anywhere (λ m. skip >> pure m) u.0 (Takes-last bad tt n (one (Number n)) anywhere skip (λ _. pure n) (Takes-skip bad (Number n)) (λ k. refl)) i used rest here e u.1 tt
+      Takes-coming bad n n anywhere (λ m. skip >> pure m) u.0 (Takes-last bad tt n (one (Number n)) anywhere skip (λ _. pure n) (Takes-skip bad (Number n) refl) (λ k. refl)) i used rest here e u.1 tt
 
   Takes-divisor : (d : ℕ) → d ≢ 0 → Takes bad divisor d (number largest_norm d) anywhere
   unfolding divisor
   Takes-divisor d some i used rest here e u after =
       let no_zero : d == 0 ≡ false = first_of (search (rules, tests), grind (arith, tests)) in
       Takes-coming bad d d anywhere (λ m. fault_if (m == 0) ZeroDenominator >> (skip >> pure m)) u.0
-      (Takes-fault_if bad d (one (Number d)) anywhere (d == 0) ZeroDenominator (skip >> pure d) no_zero (Takes-last bad tt d (one (Number d)) anywhere skip (λ _. pure d) (Takes-skip bad (Number d)) (λ k. refl)))
+      (Takes-fault_if bad d (one (Number d)) anywhere (d == 0) ZeroDenominator (skip >> pure d) no_zero (Takes-last bad tt d (one (Number d)) anywhere skip (λ _. pure d) (Takes-skip bad (Number d) refl) (λ k. refl)))
       i used rest here e u.1 tt
 
   abbrev ratio_by : ℕ → Bool → Parser Expr
@@ -72,21 +71,17 @@ module _ (bad : Option ℕ) (names : Names) where
   Takes-acting action letters at acts i used rest here e u after =
       let head : shown i ≡ Word letters ∷ rest = e ∙ ap (λ ls. ls ++ rest) u in
       let named = known_next names letters at i rest (known-variable letters at names acts.first) head in
-      record {
-        left = next i;
-        reads = ap (λ (o : Option Symbol). acting_word names action o i) (shows_a_word i rest letters head)
-            ∙ ap (λ (k : Known). acting_by names action k i) named
-            ∙ ap (λ (b : Bool). cond b (skip >> pure (expr.Symbol at)) (fault WrongKind) i) acts.acts;
-        shows = next-shown i rest (Word letters) head;
-        follows = Follows-next i;
-      }
+      Taken-next bad (acting names action) i (expr.Symbol at) (Word letters) rest head refl
+      (ap (λ (o : Option Symbol). acting_word names action o i) (shows_a_word i rest letters head)
+      ∙ ap (λ (k : Known). acting_by names action k i) named
+      ∙ ap (λ (b : Bool). cond b (skip >> pure (expr.Symbol at)) (fault WrongKind) i) acts.acts)
 
   Takes-symbol : (action : Action) (w letters : List ℕ) (at : ℕ) → IsActing names action letters at → Takes bad (symbol_by names action) (expr.Symbol at) (one (Word w) ▸ one (Sign 91) ▸ one (Word letters) ▸ one (Sign 93)) anywhere
   unfolding symbol_by
   Takes-symbol action w letters at known =
       Takes-to_right bad (one (Word w) ▸ one (Sign 91)) (one (Word letters)) (one (Sign 93)) anywhere (symbol_by names action) (expr.Symbol at)
       (Takes-to_right bad (one (Word w)) (one (Sign 91)) (one (Word letters) ▸ one (Sign 93)) anywhere (symbol_by names action) (expr.Symbol at)
-      (Takes-next bad tt (expr.Symbol at) (one (Word w)) (one (Sign 91) ▸ (one (Word letters) ▸ one (Sign 93))) anywhere skip _ (Takes-skip bad (Word w))
+      (Takes-next bad tt (expr.Symbol at) (one (Word w)) (one (Sign 91) ▸ (one (Word letters) ▸ one (Sign 93))) anywhere skip _ (Takes-skip bad (Word w) refl)
       (Takes-next bad tt (expr.Symbol at) (one (Sign 91)) (one (Word letters) ▸ one (Sign 93)) anywhere (expect 91) _ (Takes-expect bad 91)
       (Takes-then bad (expr.Symbol at) (expr.Symbol at) (one (Word letters)) (one (Sign 93)) anywhere (acting names action) (λ found. expect 93 >> pure found) (Takes-acting action letters at known)
       (Takes-last bad tt (expr.Symbol at) (one (Sign 93)) anywhere (expect 93) (λ _. pure (expr.Symbol at)) (Takes-expect bad 93) (λ i. refl))))))
@@ -109,12 +104,8 @@ module _ (bad : Option ℕ) (names : Names) where
         let no_shift = sees_by (codes "S") letters i rest head ∙ unequal_words letters (codes "S") variable.no_shift in
         let no_derivation = sees_by (codes "D") letters i rest head ∙ unequal_words letters (codes "D") variable.no_derivation in
         let named = known_next names letters at i rest (known-variable letters at names variable.first) head in
-        record {
-          left = next i;
-          reads = ap (λ (o : Option Action). word_by names operators operators o i) (letter_by i false false no_shift no_derivation) ∙ ap (λ (k : Known). name_by names k i) named;
-          shows = next-shown i rest (Word letters) head;
-          follows = Follows-next i;
-        }
+        Taken-next bad (word names operators) i (expr.Name at) (Word letters) rest head refl
+        (ap (λ (o : Option Action). word_by names operators operators o i) (letter_by i false false no_shift no_derivation) ∙ ap (λ (k : Known). name_by names k i) named)
 
     -- a symbol, where operators may stand
     take_letter : (action : Action) (i : Input) (x : Expr) (rest : List Lexeme) → IsTrue operators → letter i ≡ Some action → Taken (symbol_by names action) i x rest → Taken (word names operators) i x rest

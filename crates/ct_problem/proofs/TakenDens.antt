@@ -9,23 +9,23 @@ use Rattle.ct_expr.specs.declared.expr.Expr.{Expr}
 use Rattle.ct_problem.specs.declared.fault.BadKind.TheVariants.{WrongKind}
 use Rattle.ct_problem.specs.declared.reading.names.Known.{Known}
 use Rattle.ct_problem.specs.DenLines.{Dens, no_dens, is_given, with_den, is_summed_name, summed_by, summed_word, summed_name, once, den_line, den_lines, den_lines_from}
-use Rattle.ct_problem.specs.Input.{Parser, ◌>>=◌, ◌>>◌, pure, fault, place, skip, next, expect, sees_word}
+use Rattle.ct_problem.specs.Input.{Parser, ◌>>=◌, ◌>>◌, pure, fault, place, skip, expect, sees_word}
 use Rattle.ct_problem.specs.Lines as read
 use Rattle.ct_problem.specs.Lexemes.{Lexeme, Word, Sign, nothing, one, ◌▸◌, each}
 use Rattle.ct_problem.specs.GrammarProblem as grammar
 use Rattle.ct_problem.specs.Names.{Names, known, summed_texts}
 use Rattle.ct_problem.proofs.AlgebraNames.{with_text-length}
-use Rattle.ct_problem.proofs.Following.{Follows-next, Follows-same}
+use Rattle.ct_problem.proofs.Following.{Follows-same}
 use Rattle.ct_problem.proofs.GivenDens.{length-with_den}
 use Rattle.ct_problem.proofs.KnownNames.{known-variable}
 use Rattle.ct_problem.proofs.LexemeSteps.{shown, shows_word, sees_word-shown}
-use Rattle.ct_problem.proofs.ShownSymbols.{shows_a_word, spelling-shown, next-shown, same_word}
+use Rattle.ct_problem.proofs.ShownSymbols.{shows_a_word, spelling-shown, same_word}
 use Rattle.ct_problem.proofs.JoinedTexts.{joined_to_right}
 use Rattle.ct_problem.proofs.LineStarts.{AfterLines, Leads, other_word, fresh_before, leads_nothing, leads_key}
 use Rattle.ct_problem.proofs.LineStarts as starts
 use Rattle.ct_problem.proofs.TakenValues.{Takes-past}
 use Rattle.std.proofs.lemmas.List.{append_assoc, length-map}
-use Rattle.ct_problem.proofs.Taking.{Taken, Taken-bind, Takes, Takes-value, anywhere, Takes-then, Takes-next, Takes-last, Takes-skip, Takes-expect, headed}
+use Rattle.ct_problem.proofs.Taking.{Taken, Taken-next, Taken-bind, Takes, Takes-value, anywhere, Takes-then, Takes-next, Takes-last, Takes-skip, Takes-expect, headed}
 use Rattle.ct_problem.proofs.TakenLines.{Takes-value_line}
 use Rattle.ct_problem.proofs.TakenSteps.{IsFresh}
 
@@ -70,18 +70,14 @@ module _ (bad : Option ℕ) (names : Names) where
   Takes-summed_name at i used rest here e u after =
       let head = headed bad i used rest (Word u.letters) e u.spelled in
       let name = ap (λ (v : List ℕ). known v names) (spelling-shown i rest u.letters head) ∙ known-variable u.letters at names u.named.first in
-      record {
-        left = next i;
-        reads = ap (λ (o : Option Symbol). summed_word names o i) (shows_a_word i rest u.letters head) ∙ ap (λ (k : Known). summed_by names k i) name ∙ ap (λ (b : Bool). cond {A = Parser ℕ} b (skip >> pure at) (fault WrongKind) i) u.named.summed;
-        shows = next-shown i rest (Word u.letters) head;
-        follows = Follows-next i;
-      }
+      Taken-next bad (summed_name names) i at (Word u.letters) rest head refl
+      (ap (λ (o : Option Symbol). summed_word names o i) (shows_a_word i rest u.letters head) ∙ ap (λ (k : Known). summed_by names k i) name ∙ ap (λ (b : Bool). cond {A = Parser ℕ} b (skip >> pure at) (fault WrongKind) i) u.named.summed)
 
   -- a line of a name for which nothing stood
   Takes-den_line : (found : Dens) (at : ℕ) (x : Expr) → is_given at found ≡ false → Takes bad (den_line names found) (with_den at x found) (one (Word (codes "den")) ▸ (grammar.summed names at ▸ (one (Sign 58) ▸ grammar.value names false x))) (IsFresh bad)
   unfolding den_line
   Takes-den_line found at x other i used rest here e u after =
-      let t = Takes-next bad tt (with_den at x found) (one (Word (codes "den"))) (grammar.summed names at ▸ (one (Sign 58) ▸ grammar.value names false x)) (IsFresh bad) skip (after_key (place i)) (Takes-skip bad (Word (codes "den")))
+      let t = Takes-next bad tt (with_den at x found) (one (Word (codes "den"))) (grammar.summed names at ▸ (one (Sign 58) ▸ grammar.value names false x)) (IsFresh bad) skip (after_key (place i)) (Takes-skip bad (Word (codes "den")) refl)
       (Takes-then bad at (with_den at x found) (grammar.summed names at) (one (Sign 58) ▸ grammar.value names false x) (IsFresh bad) (summed_name names) (after_name (place i)) (Takes-summed_name at) (behind (place i))) i used rest here e u after in
       record { left = t.left; reads = t.reads; shows = t.shows; follows = t.follows }
     where

@@ -145,7 +145,7 @@ module _ (bad : Option ℕ) (names : Names) where
     Takes-nested zero x i used rest here e u after = absurd u
     Takes-nested (suc depth) x i used rest here e u after =
         Takes-to_right bad (one (Sign 40)) (IsSum names operators (IsNested names operators depth) x) (one (Sign 41)) anywhere (nested names operators (suc depth)) x
-        (Takes-next bad tt x (one (Sign 40)) (IsSum names operators (IsNested names operators depth) x ▸ one (Sign 41)) anywhere skip _ (Takes-skip bad (Sign 40))
+        (Takes-next bad tt x (one (Sign 40)) (IsSum names operators (IsNested names operators depth) x ▸ one (Sign 41)) anywhere skip _ (Takes-skip bad (Sign 40) refl)
         (Takes-bind bad x x (IsSum names operators (IsNested names operators depth) x) (one (Sign 41)) AfterSum anywhere (sum names operators (nested names operators depth)) (λ inner. expect 41 >> pure inner)
         (Takes-sum operators (nested names operators depth) (IsNested names operators depth) (Takes-nested depth) (nested_opens depth) x)
         (Takes-last bad tt x (one (Sign 41)) anywhere (expect 41) (λ _. pure x) (Takes-expect bad 41) (λ k. refl))

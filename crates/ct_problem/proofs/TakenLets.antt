@@ -12,7 +12,7 @@ use Rattle.ct_problem.specs.declared.reading.let_lines.LetWord.{LetWord}
 use Rattle.ct_problem.specs.declared.reading.let_lines.LetWord.TheVariants.{Gens, Plus, Product, Apply}
 use Rattle.ct_problem.specs.declared.reading.names.Known.{Known}
 use Rattle.ct_problem.specs.declared.reading.names.Known.TheVariants.{Let}
-use Rattle.ct_problem.specs.Input.{Input, Parser, ◌>>=◌, ◌>>◌, pure, skip, next, eat, eat_word, expect, line_end, sees_word}
+use Rattle.ct_problem.specs.Input.{Input, Parser, ◌>>=◌, ◌>>◌, pure, skip, eat, eat_word, expect, line_end, sees_word}
 use Rattle.ct_problem.specs.Declarations.{new_name}
 use Rattle.ct_problem.specs.Expressions.{expression}
 use Rattle.ct_problem.specs.LetLines.{Definition, with_definitions, list_by, list_word, list_name, listed_from, two_lists, applied, form_by, let_word, form_of_word, let_form, definition, let_lines, let_lines_from}
@@ -27,9 +27,8 @@ use Rattle.ct_problem.proofs.LexemeSteps.{shown, shows_word, shows_sign, sees_wo
 use Rattle.ct_problem.proofs.LexemeStarts.{AfterSum}
 use Rattle.ct_problem.proofs.LineStarts.{AfterLines, Leads, other_word, fresh_before, leads_nothing, leads_key}
 use Rattle.ct_problem.proofs.LineStarts as starts
-use Rattle.ct_problem.proofs.ShownSymbols.{shows_a_word, spelling-shown, next-shown}
-use Rattle.ct_problem.proofs.Following.{Follows-next}
-use Rattle.ct_problem.proofs.Taking.{Takes, anywhere, Takes-as, Takes-value, Takes-to_right, Takes-bind, Takes-then, Takes-next, Takes-last, Takes-eat, Takes-no_sign, Takes-skip, Takes-eat_word, Takes-no_word, Takes-expect, headed}
+use Rattle.ct_problem.proofs.ShownSymbols.{shows_a_word, spelling-shown}
+use Rattle.ct_problem.proofs.Taking.{Taken-next, Takes, anywhere, Takes-as, Takes-value, Takes-to_right, Takes-bind, Takes-then, Takes-next, Takes-last, Takes-eat, Takes-no_sign, Takes-skip, Takes-eat_word, Takes-no_word, Takes-expect, headed}
 use Rattle.ct_problem.proofs.TakenExpressions.{Takes-expression}
 use Rattle.ct_problem.proofs.TakenNames.{Takes-new_name}
 use Rattle.ct_problem.proofs.TakenSteps.{IsFresh, Takes-line_end}
@@ -45,12 +44,7 @@ module _ (bad : Option ℕ) (names : Names) where
   Takes-list_name at i used rest here e u after =
       let head = headed bad i used rest (Word u.letters) e u.spelled in
       let name = ap (λ (v : List ℕ). known v names) (spelling-shown i rest u.letters head) ∙ list_known u.letters names at u.named in
-      record {
-        left = next i;
-        reads = ap (λ (o : Option Symbol). list_word names o i) (shows_a_word i rest u.letters head) ∙ ap (λ (k : Known). list_by names k i) name;
-        shows = next-shown i rest (Word u.letters) head;
-        follows = Follows-next i;
-      }
+      Taken-next bad (list_name names) i at (Word u.letters) rest head refl (ap (λ (o : Option Symbol). list_word names o i) (shows_a_word i rest u.letters head) ∙ ap (λ (k : Known). list_by names k i) name)
 
   -- ---- forms
 
@@ -130,7 +124,7 @@ module _ (bad : Option ℕ) (names : Names) where
   unfolding let_form
   after_word word f M takes i used rest here e h after =
       let head : shown i ≡ Word (key_of word) ∷ (h.back ++ rest) = e ∙ ap (λ ls. ls ++ rest) (h.parts ∙ ap (λ ls. ls ++ h.back) h.first) in
-      let t = Takes-next bad tt f (one (Word (key_of word))) M Ends skip (form_by names word) (Takes-skip bad (Word (key_of word))) takes i used rest here e h after in
+      let t = Takes-next bad tt f (one (Word (key_of word))) M Ends skip (form_by names word) (Takes-skip bad (Word (key_of word)) refl) takes i used rest here e h after in
       record { left = t.left; reads = ap (λ (o : Option LetWord). form_of_word names o i) (let_with word i (h.back ++ rest) head) ∙ t.reads; shows = t.shows; follows = t.follows }
 
   Takes-let_form : (f : LetForm) → Takes bad (let_form names) f (lets.let_form names f) Ends

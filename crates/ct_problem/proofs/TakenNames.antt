@@ -103,7 +103,7 @@ module _ (bad : Option ℕ) where
       let head = headed bad i used rest (Word text) e u.1 in
       let t = Takes-fault_if bad text (one (Word text)) anywhere (nat_lt 32 (length text)) NameTooLong (old_by text) (below_is 32 (length text) u.0.short)
       (Takes-fault_if bad text (one (Word text)) anywhere (not (is_new text names)) DuplicateName (skip >> pure text) (ap not u.0.other)
-      (Takes-last bad tt text (one (Word text)) anywhere skip (λ _. pure text) (Takes-skip bad (Word text)) (λ k. refl))) i used rest here e u.1 tt in
+      (Takes-last bad tt text (one (Word text)) anywhere skip (λ _. pure text) (Takes-skip bad (Word text) refl) (λ k. refl))) i used rest here e u.1 tt in
       record { left = t.left; reads = ap (λ o. and_then o (λ v. fault_if (nat_lt 32 (length v)) NameTooLong >> old_by v)) (name_read i rest text head) ∙ t.reads; shows = t.shows; follows = t.follows }
     where
       old_by : List ℕ → Parser (List ℕ)
@@ -143,7 +143,7 @@ module _ (bad : Option ℕ) where
     unfolding declaration
     line_taken line word n M room takes =
         Takes-fault_if bad n (one (Word word) ▸ (lets.declared (declared found) text ▸ M)) (IsFresh bad) (is_full line found) TooMany (skip >> (new_name (declared found) >>= after_text line)) room
-        (Takes-next bad tt n (one (Word word)) (lets.declared (declared found) text ▸ M) (IsFresh bad) skip _ (Takes-skip bad (Word word))
+        (Takes-next bad tt n (one (Word word)) (lets.declared (declared found) text ▸ M) (IsFresh bad) skip _ (Takes-skip bad (Word word) refl)
         (Takes-then bad text n (lets.declared (declared found) text) M (IsFresh bad) (new_name (declared found)) (after_text line) (Takes-new_name (declared found) text) takes))
 
     free_line : (word : List ℕ) (action : Action) → is_full Free found ≡ false → Takes bad free_action action (one (Word word)) anywhere

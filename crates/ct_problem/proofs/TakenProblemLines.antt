@@ -27,7 +27,7 @@ module _ (bad : Option ℕ) where
       Takes-coming bad n n anywhere (λ m. fault_if (nat_lt limit m) OutOfRange >> (fault_if (nat_lt m low) EmptyRange >> (skip >> pure m))) (omega (arith, most, within))
       (Takes-fault_if bad n (one (Number n)) anywhere (nat_lt limit n) OutOfRange (fault_if (nat_lt n low) EmptyRange >> (skip >> pure n)) (below_is limit n within)
       (Takes-fault_if bad n (one (Number n)) anywhere (nat_lt n low) EmptyRange (skip >> pure n) (below_is n low rising)
-      (Takes-last bad tt n (one (Number n)) anywhere skip (λ _. pure n) (Takes-skip bad (Number n)) (λ k. refl))))
+      (Takes-last bad tt n (one (Number n)) anywhere skip (λ _. pure n) (Takes-skip bad (Number n) refl) (λ k. refl))))
 
   Takes-range : (limit : ℕ) (r : Range) → limit ≤ largest_norm → Takes bad (range limit) r (grammar.range limit r) anywhere
   unfolding range

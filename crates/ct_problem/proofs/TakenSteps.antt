@@ -15,9 +15,9 @@ use Rattle.ct_problem.specs.Number as digits
 use Rattle.ct_problem.specs.Number.{fault_if, coming_number}
 use Rattle.ct_problem.specs.Lexemes.{Lexeme, Word, Number, Sign, Dots, LineEnd, Texts, nothing, one, number, lexeme_of, lexemes}
 use Rattle.ct_problem.proofs.LexemeSteps.{shown, value_of-small}
-use Rattle.ct_problem.proofs.Following.{Follows-same, Follows-then, Follows-next}
+use Rattle.ct_problem.proofs.Following.{Follows-same, Follows-then, Follows-next, fresh_line-settles}
 use Rattle.ct_problem.proofs.ShownSymbols.{shows_a_number, shows_dots, shows_line_end, decimal-shown, next-shown, same_number}
-use Rattle.ct_problem.proofs.Taking.{Takes, anywhere, headed, Takes-last, Takes-skip, Takes-fault_if}
+use Rattle.ct_problem.proofs.Taking.{Taken-next, Takes, anywhere, headed, Takes-last, Takes-skip, Takes-fault_if}
 
 -- ---- lines
 
@@ -77,7 +77,7 @@ module _ (bad : Option ℕ) where
   Takes-line_end i used rest here e u after =
       let head = headed bad i used rest LineEnd e u in
       let t = Takes-fresh_line (next i) [] rest here (next-shown i rest LineEnd head) refl after in
-      record { left = t.left; reads = ap (λ (o : Option Symbol). line_end_by o i) (shows_line_end i rest head) ∙ t.reads; shows = t.shows; follows = Follows-then i (next i) t.left (Follows-next i) t.follows }
+      record { left = t.left; reads = ap (λ (o : Option Symbol). line_end_by o i) (shows_line_end i rest head) ∙ t.reads; shows = t.shows; follows = Follows-then i (next i) t.left (Follows-next i (λ s. (fresh_line-settles (next i) t.left tt t.reads).1)) t.follows }
 
   -- ---- `..`
 
@@ -85,7 +85,7 @@ module _ (bad : Option ℕ) where
   unfolding dots
   Takes-dots i used rest here e u after =
       let head = headed bad i used rest Dots e u in
-      record { left = next i; reads = ap (λ (o : Option Symbol). dots_by o i) (shows_dots i rest head); shows = next-shown i rest Dots head; follows = Follows-next i }
+      Taken-next bad dots i tt Dots rest head refl (ap (λ (o : Option Symbol). dots_by o i) (shows_dots i rest head))
 
   -- ---- numbers
 
@@ -115,16 +115,12 @@ module _ (bad : Option ℕ) where
       let small = u.0 in
       let within : nat_lt limit n ≡ false = first_of (search (rules, tests), grind (arith, tests)) in
       Takes-coming n n anywhere (λ m. fault_if (nat_lt limit m) kind >> (skip >> pure m)) (omega (arith, small, low))
-      (Takes-fault_if bad n (one (Number n)) anywhere (nat_lt limit n) kind (skip >> pure n) within (Takes-last bad tt n (one (Number n)) anywhere skip (λ _. pure n) (Takes-skip bad (Number n)) (λ k. refl)))
+      (Takes-fault_if bad n (one (Number n)) anywhere (nat_lt limit n) kind (skip >> pure n) within (Takes-last bad tt n (one (Number n)) anywhere skip (λ _. pure n) (Takes-skip bad (Number n) refl) (λ k. refl)))
       i used rest here e u.1 tt
 
   pub Takes-exactly : (n : ℕ) → n ≤ largest_norm → Takes bad (digits.exactly n) tt (one (Number n)) anywhere
   unfolding digits.exactly
   Takes-exactly n low i used rest here e u after =
       let head = headed bad i used rest (Number n) e u in
-      record {
-        left = next i;
-        reads = ap (λ o. and_then o (λ m. cond (m == n) skip syntax)) (digits_read i n rest head low) ∙ ap (λ (b : Bool). cond b skip syntax i) (same_number n);
-        shows = next-shown i rest (Number n) head;
-        follows = Follows-next i;
-      }
+      Taken-next bad (digits.exactly n) i tt (Number n) rest head refl
+      (ap (λ o. and_then o (λ m. cond (m == n) skip syntax)) (digits_read i n rest head low) ∙ ap (λ (b : Bool). cond b skip syntax i) (same_number n))

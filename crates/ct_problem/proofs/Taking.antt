@@ -10,7 +10,7 @@ use Rattle.ct_problem.specs.Number.{fault_if}
 use Rattle.ct_problem.specs.Lexemes.{Lexeme, Word, Sign, Texts, nothing, one, ◌▸◌}
 use Rattle.ct_problem.proofs.LexemeSteps.{shown, shows_sign, shows_word, sees-shown, sees_word-shown}
 use Rattle.ct_problem.proofs.JoinedTexts.{joined_to_right}
-use Rattle.ct_problem.proofs.Following.{Follows, Follows-same, Follows-then, Follows-next}
+use Rattle.ct_problem.proofs.Following.{Follows, Follows-same, Follows-then, Follows-past, ends_line}
 use Rattle.ct_problem.proofs.ShownSymbols.{next-shown, same_number, same_word}
 
 pub record Taken {A : Type 0} (p : Parser A) (i : Input) (x : A) (rest : List Lexeme) : Type 0 where
@@ -70,15 +70,19 @@ module _ (bad : Option ℕ) where
     pub headed : shown i ≡ used ++ rest → one l used → shown i ≡ l ∷ rest
     headed e u = e ∙ ap (λ ls. ls ++ rest) u
 
-  pub Takes-skip : (l : Lexeme) → Takes bad skip tt (one l) anywhere
-  Takes-skip l i used rest here e u after = record { left = next i; reads = refl; shows = next-shown i rest l (headed i used rest l e u); follows = Follows-next i }
+  -- the next lexeme is taken
+  pub Taken-next : {A : Type 0} (p : Parser A) (i : Input) (x : A) (l : Lexeme) (rest : List Lexeme) → shown i ≡ l ∷ rest → ends_line l ≡ false → p i ≡ Ok (x, next i) → Taken p i x rest
+  Taken-next p i x l rest head plain reads = record { left = next i; reads = reads; shows = next-shown i rest l head; follows = Follows-past i l rest head plain }
+
+  pub Takes-skip : (l : Lexeme) → ends_line l ≡ false → Takes bad skip tt (one l) anywhere
+  Takes-skip l plain i used rest here e u after = Taken-next skip i tt l rest (headed i used rest l e u) plain refl
 
   pub Takes-eat : (s : ℕ) → Takes bad (eat s) true (one (Sign s)) anywhere
   unfolding eat
   Takes-eat s i used rest here e u after =
       let head = headed i used rest (Sign s) e u in
       let seen : sees s i ≡ true = sees-shown s i ∙ ap (shows_sign s) head ∙ same_number s in
-      record { left = next i; reads = ap (λ (b : Bool). Ok (b, past b i)) seen; shows = next-shown i rest (Sign s) head; follows = Follows-next i }
+      Taken-next (eat s) i true (Sign s) rest head refl (ap (λ (b : Bool). Ok (b, past b i)) seen)
 
   pub Takes-no_sign : (s : ℕ) → Takes bad (eat s) false nothing (λ rest. shows_sign s rest ≡ false)
   unfolding eat
@@ -92,7 +96,7 @@ module _ (bad : Option ℕ) where
   Takes-eat_word w i used rest here e u after =
       let head = headed i used rest (Word w) e u in
       let seen : sees_word w i ≡ true = sees_word-shown w i ∙ ap (shows_word w) head ∙ same_word w in
-      record { left = next i; reads = ap (λ (b : Bool). Ok (b, past b i)) seen; shows = next-shown i rest (Word w) head; follows = Follows-next i }
+      Taken-next (eat_word w) i true (Word w) rest head refl (ap (λ (b : Bool). Ok (b, past b i)) seen)
 
   pub Takes-no_word : (w : List ℕ) → Takes bad (eat_word w) false nothing (λ rest. shows_word w rest ≡ false)
   unfolding eat_word
