@@ -21,7 +21,7 @@ use Rattle.ct_problem.proofs.KnownNames.{variable-known}
 use Rattle.ct_problem.proofs.LexemeSteps.{shown, sees_word-shown, shown-symbol}
 use Rattle.ct_problem.proofs.Spelling.{Spelled, Spells, Spells-expect, taken, after_taken, moved, shows_word-gives}
 use Rattle.ct_problem.proofs.SpelledLines.{Goes-past_test, Goes-value}
-use Rattle.ct_problem.proofs.SpelledRuns.{Going, Goes, Goes-pure, Goes-as, Goes-bind, Goes-then, by_only}
+use Rattle.ct_problem.proofs.SpelledRuns.{Going, Goes, Goes-pure, Goes-as, Goes-bind, Goes-then, by_whole}
 
 module _ (names : Names) where
   -- ---- a summed name
@@ -106,7 +106,7 @@ module _ (names : Names) where
       → cond {A = Parser Dens} b (den_line names found >>= (λ ds. den_lines_from names n ds)) (pure found) i ≡ Ok (dens, j) → Going nothing (MoreDens found dens) i j
   line_goes n found others i j dens false e h = Goes-pure nothing (MoreDens found) found (no_den found) i j dens h
   line_goes n found others i j dens true e h =
-      by_only nothing (OneDen found) (MoreDens found) (λ ds. den_lines_from names n ds) i j dens (den_line names found i) (λ x k read. den_is found i k x e read) (one_den n found others) h
+      by_whole nothing (OneDen found) (MoreDens found) (λ ds. den_lines_from names n ds) i j dens (den_line names found i) (λ x k read. den_is found i k x e read) (one_den n found others) h
 
   Goes-lines : (n : ℕ) (found : Dens) → Goes nothing (den_lines_from names n found) (MoreDens found)
   unfolding den_lines_from

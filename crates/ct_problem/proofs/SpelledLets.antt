@@ -208,7 +208,7 @@ module _ (variables : List Naming) where
   Goes-lines : (n : ℕ) (found : List Definition) → Goes nothing (let_lines_from variables n found) (MoreLets n found)
   unfolding let_lines_from
   Goes-lines zero found = Goes-past_test nothing (MoreLets 0 found) (codes "let") (pure found) (Goes-pure (nothing ▸ nothing) (MoreLets 0 found) found (λ ls h. no_let 0 found ls (nothing_joined h)))
-  Goes-lines (suc n) found = Goes-begin nothing (optional (Word (codes "let"))) (MoreLets (suc n) found) (eat_word (codes "let")) _ (Spells-eat_word (codes "let")) (one_let n found (λ d. Goes-lines n (found ++ d ∷ [])))
+  Goes-lines (suc n) found = Goes-begin (optional (Word (codes "let"))) (MoreLets (suc n) found) (eat_word (codes "let")) _ (Spells-eat_word (codes "let")) (one_let n found (λ d. Goes-lines n (found ++ d ∷ [])))
 
   pub Goes-let_lines : Goes nothing (let_lines variables) (lets.let_lines variables)
   unfolding let_lines

@@ -18,12 +18,12 @@ use Rattle.ct_problem.proofs.JoinedTexts.{nothing_joined, replaced}
 use Rattle.ct_problem.proofs.Spelling.{Spells-eat_word, Spells-expect, Spells-expect_word}
 use Rattle.ct_problem.proofs.SpelledSteps.{Spells-exactly}
 use Rattle.ct_problem.proofs.SpelledExpressions.{Spells-expression}
-use Rattle.ct_problem.proofs.SpelledRuns.{Goes, Goes-pure, Goes-look, Goes-fault, Goes-as, Goes-bind, Goes-first, Goes-begin, Goes-then, Goes-line_end}
+use Rattle.ct_problem.proofs.SpelledRuns.{Goes, Goes-pure, Goes-look, Goes-fault, Goes-as, Goes-bind, Goes-whole, Goes-begin, Goes-then, Goes-line_end}
 
 pub Goes-header : (kind : List ℕ) → Goes nothing (read.header kind) (λ _. header kind)
 unfolding read.header
 Goes-header kind =
-    Goes-begin nothing (λ _. one (Word (codes "mgfun"))) H (expect_word (codes "mgfun")) _ (Spells-expect_word (codes "mgfun")) (λ _.
+    Goes-begin (λ _. one (Word (codes "mgfun"))) H (expect_word (codes "mgfun")) _ (Spells-expect_word (codes "mgfun")) (λ _.
     Goes-then (one (Word (codes "mgfun"))) (λ _. one (Word kind)) H (expect_word kind) _ (Spells-expect_word kind) (λ _.
     Goes-then (one (Word (codes "mgfun")) ▸ one (Word kind)) (λ _. one (Number 1)) H (digits.exactly 1) _ (Spells-exactly 1 (omega arith)) (λ _.
     Goes-as (one (Word (codes "mgfun")) ▸ one (Word kind) ▸ one (Number 1)) H (λ _. one LineEnd) line_end Goes-line_end (λ x ls h. h))))
@@ -34,7 +34,7 @@ Goes-header kind =
 -- a test that takes nothing
 pub Goes-no_more : (key : List ℕ) → Goes nothing (read.no_more key) (λ _. nothing)
 unfolding read.no_more
-Goes-no_more key = Goes-first nothing (λ (_ : Bool). nothing) N (look (sees_word key)) (λ more. fault_if more TooMany) (Goes-look nothing (λ _. nothing) (sees_word key) (λ x ls h. h)) by
+Goes-no_more key = Goes-whole nothing (λ (_ : Bool). nothing) N (look (sees_word key)) (λ more. fault_if more TooMany) (Goes-look nothing (λ _. nothing) (sees_word key) (λ x ls h. h)) by
   where
     N : Unit {0} → Texts
     N _ = nothing
@@ -55,19 +55,19 @@ module _ (names : Names) where
   pub Goes-value : (operators : Bool) → Goes nothing (read.value names operators) (value names operators)
   unfolding read.value
   Goes-value operators =
-      Goes-begin nothing (IsExpression names operators) (value names operators) (expression names operators) _ (Spells-expression names operators) (λ x.
+      Goes-begin (IsExpression names operators) (value names operators) (expression names operators) _ (Spells-expression names operators) (λ x.
       Goes-ended (IsExpression names operators x) (value names operators) x (λ ls h. h))
 
   pub Goes-keyed : (key : List ℕ) (operators : Bool) → Goes nothing (rules.keyed names key operators) (keyed names key operators)
   unfolding rules.keyed
   Goes-keyed key operators =
-      Goes-begin nothing (λ (_ : Unit {0}). one (Word key)) (keyed names key operators) (expect_word key) _ (Spells-expect_word key) (λ _.
+      Goes-begin (λ (_ : Unit {0}). one (Word key)) (keyed names key operators) (expect_word key) _ (Spells-expect_word key) (λ _.
       Goes-as (one (Word key)) (keyed names key operators) (value names operators) (read.value names operators) (Goes-value operators) (λ x ls h. h))
 
   pub Goes-part : (key text : List ℕ) (operators : Bool) → Goes nothing (read.part names key text operators) (part names key operators text)
   unfolding read.part
   Goes-part key text operators =
-      Goes-begin nothing (λ (_ : Unit {0}). one (Word key)) L (expect_word key) _ (Spells-expect_word key) (λ _.
+      Goes-begin (λ (_ : Unit {0}). one (Word key)) L (expect_word key) _ (Spells-expect_word key) (λ _.
       Goes-then (one (Word key)) (λ (_ : Unit {0}). one (Word text)) L (expect_word text) _ (Spells-expect_word text) (λ _.
       Goes-then (one (Word key) ▸ one (Word text)) (λ (_ : Unit {0}). one (Sign 58)) L (expect 58) _ (Spells-expect 58) (λ _.
       Goes-as (one (Word key) ▸ one (Word text) ▸ one (Sign 58)) L (value names operators) (read.value names operators) (Goes-value operators) (λ x ls h. h))))
@@ -105,7 +105,7 @@ module _ (names : Names) where
     Goes-more : (n : ℕ) (found : List Expr) → Goes nothing (read.value_lines_from names key n found) (MoreValues n found)
     unfolding read.value_lines_from
     Goes-more zero found = Goes-past_test nothing (MoreValues 0 found) key (pure found) (Goes-pure (nothing ▸ nothing) (MoreValues 0 found) found (λ ls h. no_value 0 found ls (nothing_joined h)))
-    Goes-more (suc n) found = Goes-begin nothing (optional (Word key)) (MoreValues (suc n) found) (eat_word key) _ (Spells-eat_word key) (one_value n found (λ x. Goes-more n (found ++ x ∷ [])))
+    Goes-more (suc n) found = Goes-begin (optional (Word key)) (MoreValues (suc n) found) (eat_word key) _ (Spells-eat_word key) (one_value n found (λ x. Goes-more n (found ++ x ∷ [])))
 
     pub Goes-value_lines : Goes nothing (read.value_lines names key) (values names key)
     unfolding read.value_lines

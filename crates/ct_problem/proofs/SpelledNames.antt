@@ -28,7 +28,7 @@ use Rattle.ct_problem.proofs.LexemeSteps.{shown, after_first, sees_word-shown, s
 use Rattle.ct_problem.proofs.NewNames.{not_false}
 use Rattle.ct_problem.proofs.Spelling.{Spells, Continues, Spells-bind, Spells-eat_word, Spells-expect_word, Continues-pure, Continues-bind, taken, after_taken, moved, shows_word-gives}
 use Rattle.ct_problem.proofs.SpelledSteps.{first_read, test_failed}
-use Rattle.ct_problem.proofs.SpelledRuns.{Going, Goes, Goes-pure, Goes-fault, Goes-fault_if, Goes-seen, Goes-as, Goes-bind, Goes-first, Goes-then, Goes-line_end, by_only}
+use Rattle.ct_problem.proofs.SpelledRuns.{Going, Goes, Goes-pure, Goes-fault, Goes-fault_if, Goes-seen, Goes-as, Goes-bind, Goes-whole, Goes-then, Goes-line_end, by_whole}
 
 -- ---- a name that is declared
 
@@ -234,7 +234,7 @@ line_goes : (n : ℕ) (found : List Naming) → Others n found → (i j : Input)
     → declarations_by (λ line. declaration line found >>= (λ naming. declarations_from n (found ++ naming ∷ []))) found o i ≡ Ok (ns, j) → Going nothing (MoreNames (suc n) found ns) i j
 line_goes n found others i j ns None e h = Goes-pure nothing (MoreNames (suc n) found) found (no_name (suc n) found) i j ns h
 line_goes n found others i j ns (Some line) e h =
-    by_only nothing (Line found) (MoreNames (suc n) found) (λ naming. declarations_from n (found ++ naming ∷ [])) i j ns (declaration line found i) (λ x k read. declared_is found line i k x e read) (one_name n found others) h
+    by_whole nothing (Line found) (MoreNames (suc n) found) (λ naming. declarations_from n (found ++ naming ∷ [])) i j ns (declaration line found i) (λ x k read. declared_is found line i k x e read) (one_name n found others) h
 
 Goes-lines : (n : ℕ) (found : List Naming) → Goes nothing (declarations_from n found) (MoreNames n found)
 unfolding declarations_from Others
@@ -248,7 +248,7 @@ pub record FewNames (ns : List Naming) (ls : List Lexeme) : Type 0 where
 
 pub Goes-declarations : Goes nothing declarations FewNames
 unfolding declarations
-Goes-declarations = Goes-first nothing (MoreNames 6 []) FewNames (declarations_from 6 []) some_names (Goes-lines 6 []) by
+Goes-declarations = Goes-whole nothing (MoreNames 6 []) FewNames (declarations_from 6 []) some_names (Goes-lines 6 []) by
   where
     by : (ns : List Naming) → Goes (MoreNames 6 [] ns) (some_names ns) FewNames
     by [] = Goes-fault (MoreNames 6 [] []) FewNames Syntax

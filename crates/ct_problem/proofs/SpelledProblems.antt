@@ -27,7 +27,7 @@ use Rattle.ct_problem.proofs.SpelledDens.{Goes-den_lines}
 use Rattle.ct_problem.proofs.SpelledLets.{Spells-list_name, Goes-let_lines}
 use Rattle.ct_problem.proofs.SpelledLines.{Goes-header, Goes-past_test, Goes-value_lines}
 use Rattle.ct_problem.proofs.SpelledNames.{FewNames, Goes-declarations}
-use Rattle.ct_problem.proofs.SpelledRuns.{Goes, Goes-pure, Goes-bind, Goes-first, Goes-begin, Goes-then, Goes-line_end, Goes-fresh_line}
+use Rattle.ct_problem.proofs.SpelledRuns.{Goes, Goes-pure, Goes-bind, Goes-whole, Goes-begin, Goes-then, Goes-line_end, Goes-fresh_line}
 use Rattle.ct_problem.proofs.SpelledSteps.{test_failed, Coming-taken, Spells-coming, Spells-dots, Spells-number}
 
 -- ---- generators
@@ -60,7 +60,7 @@ module _ (names : Names) where
 
   pub Goes-generators : Goes nothing (generators names) (grammar.generators names)
   unfolding generators These
-  Goes-generators = Goes-first nothing (grammar.values names (codes "gen")) These (value_lines names (codes "gen")) (listed_or_used names) (Goes-value_lines names (codes "gen")) listed_or
+  Goes-generators = Goes-whole nothing (grammar.values names (codes "gen")) These (value_lines names (codes "gen")) (listed_or_used names) (Goes-value_lines names (codes "gen")) listed_or
 
 -- ---- ranges
 
@@ -87,7 +87,7 @@ Spells-range limit =
 pub Goes-range_line : (key : List ℕ) (limit : ℕ) → Goes nothing (range_line key limit) (grammar.range_line key limit)
 unfolding range_line
 Goes-range_line key limit =
-    Goes-begin nothing (optional (Word key)) L (eat_word key) (λ is_there. cond is_there (range limit >>= (λ r. line_end >> (no_more key >> pure (Some r)))) (pure None)) (Spells-eat_word key) by
+    Goes-begin (optional (Word key)) L (eat_word key) (λ is_there. cond is_there (range limit >>= (λ r. line_end >> (no_more key >> pure (Some r)))) (pure None)) (Spells-eat_word key) by
   where
     L : Option Range → Texts
     L = grammar.range_line key limit
@@ -109,8 +109,8 @@ pub record Head (h : List Naming × List Definition) (ls : List Lexeme) : Type 0
 pub Goes-head : Goes nothing head Head
 unfolding head
 Goes-head =
-    Goes-first nothing (λ (_ : Unit {0}). nothing) Head fresh_line _ Goes-fresh_line (λ _.
-    Goes-first nothing (λ (_ : Unit {0}). grammar.header (codes "problem")) Head (read.header (codes "problem")) _ (Goes-header (codes "problem")) (λ _.
+    Goes-whole nothing (λ (_ : Unit {0}). nothing) Head fresh_line _ Goes-fresh_line (λ _.
+    Goes-whole nothing (λ (_ : Unit {0}). grammar.header (codes "problem")) Head (read.header (codes "problem")) _ (Goes-header (codes "problem")) (λ _.
     Goes-bind (grammar.header (codes "problem")) FewNames Head declarations _ Goes-declarations (λ variables.
     Goes-bind (grammar.header (codes "problem") ▸ FewNames variables) (lets.let_lines variables) Head (let_lines variables) (λ definitions. pure (variables, definitions)) (Goes-let_lines variables) (λ definitions.
     Goes-pure (grammar.header (codes "problem") ▸ FewNames variables ▸ lets.let_lines variables definitions) Head (variables, definitions) (λ ls h. record {

@@ -16,7 +16,7 @@ use Rattle.ct_problem.specs.GrammarReport.{part, quotient, cofactor, cofactors, 
 use Rattle.ct_problem.proofs.JoinedTexts.{nothing_joined, replaced}
 use Rattle.ct_problem.proofs.Spelling.{Spells, Spells-bind, Spells-expect, Spells-expect_word, Continues-last}
 use Rattle.ct_problem.proofs.SpelledLines.{Goes-value, Goes-part}
-use Rattle.ct_problem.proofs.SpelledRuns.{Goes, Goes-pure, Goes-as, Goes-bind, Goes-first, Goes-begin, Goes-then, Goes-line_end}
+use Rattle.ct_problem.proofs.SpelledRuns.{Goes, Goes-pure, Goes-as, Goes-bind, Goes-whole, Goes-begin, Goes-then, Goes-line_end}
 use Rattle.ct_problem.proofs.SpelledSteps.{Spells-number, Spells-exactly}
 
 Spells-numbered : (key : List ℕ) → Spells (rules.numbered key) (numbered key)
@@ -30,7 +30,7 @@ Place p = found_line p.0 p.1 p.2
 pub Goes-found_line : Goes nothing rules.found_line Place
 unfolding rules.found_line
 Goes-found_line =
-    Goes-begin nothing (numbered (codes "found")) Place (rules.numbered (codes "found")) _ (Spells-numbered (codes "found")) (λ index.
+    Goes-begin (numbered (codes "found")) Place (rules.numbered (codes "found")) _ (Spells-numbered (codes "found")) (λ index.
     Goes-then (numbered (codes "found") index) (numbered (codes "order")) Place (rules.numbered (codes "order")) _ (Spells-numbered (codes "order")) (λ order.
     Goes-then (numbered (codes "found") index ▸ numbered (codes "order") order) (numbered (codes "degree")) Place (rules.numbered (codes "degree")) _ (Spells-numbered (codes "degree")) (λ degree.
     Goes-bind (numbered (codes "found") index ▸ numbered (codes "order") order ▸ numbered (codes "degree") degree) (λ (_ : Unit {0}). one LineEnd) Place line_end (λ _. pure (index, order, degree)) Goes-line_end (λ _.
@@ -58,7 +58,7 @@ module _ (names : Names) where
   Goes-quotient : (text : List ℕ) → Goes nothing (rules.quotient names text) (quotient names text)
   unfolding rules.quotient
   Goes-quotient text =
-      Goes-first nothing (part names (codes "numerator") true text) (quotient names text) (read.part names (codes "numerator") text true) _ (Goes-part names (codes "numerator") text true) (λ numerator.
+      Goes-whole nothing (part names (codes "numerator") true text) (quotient names text) (read.part names (codes "numerator") text true) _ (Goes-part names (codes "numerator") text true) (λ numerator.
       Goes-bind (part names (codes "numerator") true text numerator) (part names (codes "denominator") false text) (quotient names text) (read.part names (codes "denominator") text false) (λ denominator. pure (record { numerator = numerator; denominator = denominator })) (Goes-part names (codes "denominator") text false) (λ denominator.
       Goes-pure (part names (codes "numerator") true text numerator ▸ part names (codes "denominator") false text denominator) (quotient names text) (record { numerator = numerator; denominator = denominator }) (λ ls h. h)))
 
@@ -66,7 +66,7 @@ module _ (names : Names) where
   unfolding rules.quotients_from
   Goes-quotients [] found = Goes-pure nothing (MoreWith (quotient names) [] found) found (λ ls h. record { more = []; value_is = sym (append-nil found); spelled = h })
   Goes-quotients (text ∷ texts) found =
-      Goes-first nothing (quotient names text) (MoreWith (quotient names) (text ∷ texts) found) (rules.quotient names text) _ (Goes-quotient text) (λ q.
+      Goes-whole nothing (quotient names text) (MoreWith (quotient names) (text ∷ texts) found) (rules.quotient names text) _ (Goes-quotient text) (λ q.
       Goes-as (quotient names text q) (MoreWith (quotient names) (text ∷ texts) found) (MoreWith (quotient names) texts (found ++ q ∷ [])) (rules.quotients_from names texts (found ++ q ∷ [])) (Goes-quotients texts (found ++ q ∷ [])) (λ xs ls h.
       one_with (quotient names) text texts found xs q ls h))
 
@@ -74,14 +74,14 @@ module _ (names : Names) where
   unfolding rules.factors_of
   Goes-factors [] found = Goes-pure nothing (MoreWith (part names (codes "part") false) [] found) found (λ ls h. record { more = []; value_is = sym (append-nil found); spelled = h })
   Goes-factors (text ∷ texts) found =
-      Goes-first nothing (part names (codes "part") false text) (MoreWith (part names (codes "part") false) (text ∷ texts) found) (read.part names (codes "part") text false) _ (Goes-part names (codes "part") text false) (λ x.
+      Goes-whole nothing (part names (codes "part") false text) (MoreWith (part names (codes "part") false) (text ∷ texts) found) (read.part names (codes "part") text false) _ (Goes-part names (codes "part") text false) (λ x.
       Goes-as (part names (codes "part") false text x) (MoreWith (part names (codes "part") false) (text ∷ texts) found) (MoreWith (part names (codes "part") false) texts (found ++ x ∷ [])) (rules.factors_of names texts (found ++ x ∷ [])) (Goes-factors texts (found ++ x ∷ [])) (λ xs ls h.
       one_with (part names (codes "part") false) text texts found xs x ls h))
 
   Goes-cofactor : (place : ℕ) → place ≤ largest_norm → Goes nothing (rules.cofactor names place) (cofactor names place)
   unfolding rules.cofactor
   Goes-cofactor place low =
-      Goes-begin nothing (λ (_ : Unit {0}). one (Word (codes "cofactor"))) (cofactor names place) (expect_word (codes "cofactor")) _ (Spells-expect_word (codes "cofactor")) (λ _.
+      Goes-begin (λ (_ : Unit {0}). one (Word (codes "cofactor"))) (cofactor names place) (expect_word (codes "cofactor")) _ (Spells-expect_word (codes "cofactor")) (λ _.
       Goes-then (one (Word (codes "cofactor"))) (λ (_ : Unit {0}). one (Number place)) (cofactor names place) (digits.exactly place) _ (Spells-exactly place low) (λ _.
       Goes-then (one (Word (codes "cofactor")) ▸ one (Number place)) (λ (_ : Unit {0}). one (Sign 58)) (cofactor names place) (expect 58) _ (Spells-expect 58) (λ _.
       Goes-as (one (Word (codes "cofactor")) ▸ one (Number place) ▸ one (Sign 58)) (cofactor names place) (value names true) (read.value names true) (Goes-value names true) (λ x ls h. h))))
@@ -97,7 +97,7 @@ module _ (names : Names) where
   unfolding rules.cofactors_from
   Goes-more_cofactors place zero found low = Goes-pure nothing (MoreCofactors place 0 found) found (λ ls h. record { more = []; value_is = sym (append-nil found); counted = refl; spelled = h })
   Goes-more_cofactors place (suc n) found low =
-      Goes-first nothing (cofactor names place) (MoreCofactors place (suc n) found) (rules.cofactor names place) _ (Goes-cofactor place (omega (arith, low))) (λ x.
+      Goes-whole nothing (cofactor names place) (MoreCofactors place (suc n) found) (rules.cofactor names place) _ (Goes-cofactor place (omega (arith, low))) (λ x.
       Goes-as (cofactor names place x) (MoreCofactors place (suc n) found) (MoreCofactors (place + 1) n (found ++ x ∷ [])) (rules.cofactors_from names (place + 1) n (found ++ x ∷ [])) (Goes-more_cofactors (place + 1) n (found ++ x ∷ []) (omega (arith, low))) (λ xs ls h.
       record {
         more = x ∷ h.second.more;

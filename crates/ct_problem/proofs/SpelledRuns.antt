@@ -75,62 +75,9 @@ module _ {A : Type 0} (D : Texts) (L : A → Texts) where
   pub Goes-seen : {Y : Type 0} (g : Input → Y) (f : Y → Parser A) → ((y : Y) → Goes D (f y) L) → Goes D (λ i. f (g i) i) L
   Goes-seen g f each i j x e = each (g i) i j x e
 
+-- one rule after the other, where what was taken stands for the whole of what the first gives
 module _ {A B : Type 0} (D : Texts) (M : A → Texts) (L : B → Texts) where
-  by_first : (f : A → Parser B) (i j : Input) (y : B) (o : Outcome A) → ((x : A) (k : Input) → o ≡ Ok (x, k) → Going nothing (M x) i k) → ((x : A) → Goes (D ▸ M x) (f x) L)
-      → and_then o f ≡ Ok (y, j) → Going D (L y) i j
-  by_first f i j y (Err fault) first second e = cc
-  by_first f i j y (Ok r) first second e =
-      let g = first r.0 r.1 refl in
-      let h = second r.0 r.1 j y e in
-      record {
-        follows = Follows-then i r.1 j g.follows h.follows;
-        spelled = λ before d left.
-            let s = g.spelled [] refl (goes_on_before r.1 j h.follows left) in
-            let t = h.spelled (before ++ s.used) (joined before s.used d s.spells) left in
-            record {
-              used = s.used ++ t.used;
-              parts = s.parts ∙ ap (λ ls. s.used ++ ls) t.parts ∙ sym (append_assoc s.used t.used (shown j));
-              spells = subst (L y) (append_assoc before s.used t.used) t.spells;
-              follows = Follows-then i r.1 j s.follows t.follows;
-            };
-      }
-
-  pub Goes-bind : (p : Parser A) (f : A → Parser B) → Goes nothing p M → ((x : A) → Goes (D ▸ M x) (f x) L) → Goes D (p >>= f) L
-  Goes-bind p f first second i j y e = by_first f i j y (p i) (λ x k h. first i k x h) second e
-
-  pub by_only : (f : A → Parser B) (i j : Input) (y : B) (o : Outcome A) → ((x : A) (k : Input) → o ≡ Ok (x, k) → Going nothing (M x) i k) → ((x : A) → Goes (M x) (f x) L)
-      → and_then o f ≡ Ok (y, j) → Going nothing (L y) i j
-  by_only f i j y (Err fault) first second e = cc
-  by_only f i j y (Ok r) first second e =
-      let g = first r.0 r.1 refl in
-      let h = second r.0 r.1 j y e in
-      record {
-        follows = Follows-then i r.1 j g.follows h.follows;
-        spelled = λ before none left.
-            let s = g.spelled [] refl (goes_on_before r.1 j h.follows left) in
-            let t = h.spelled s.used s.spells left in
-            record {
-              used = s.used ++ t.used;
-              parts = s.parts ∙ ap (λ ls. s.used ++ ls) t.parts ∙ sym (append_assoc s.used t.used (shown j));
-              spells = subst (λ (ls : List Lexeme). L y (ls ++ (s.used ++ t.used))) (sym none) t.spells;
-              follows = Follows-then i r.1 j s.follows t.follows;
-            };
-      }
-
-  -- the same, where nothing stands before
-  pub Goes-first : (p : Parser A) (f : A → Parser B) → Goes nothing p M → ((x : A) → Goes (M x) (f x) L) → Goes nothing (p >>= f) L
-  Goes-first p f first second i j y e = by_only f i j y (p i) (λ x k h. first i k x h) second e
-
-  pub Goes-begin : (p : Parser A) (f : A → Parser B) → Spells p M → ((x : A) → Goes (M x) (f x) L) → Goes nothing (p >>= f) L
-  Goes-begin p f first second = Goes-first p f (Goes-last nothing M M p first (λ x ls h. nothing_joined h)) second
-
-  -- the same, where the first rule is one of its own
-  pub Goes-then : (p : Parser A) (f : A → Parser B) → Spells p M → ((x : A) → Goes (D ▸ M x) (f x) L) → Goes D (p >>= f) L
-  Goes-then p f first second = Goes-bind p f (Goes-last nothing M M p first (λ x ls h. nothing_joined h)) second
-
--- the same, where what was taken stands for the whole of what the first rule gives
-module _ {A B : Type 0} (D : Texts) (M : A → Texts) (L : B → Texts) where
-  by_whole : (f : A → Parser B) (i j : Input) (y : B) (o : Outcome A) → ((x : A) (k : Input) → o ≡ Ok (x, k) → Going D (M x) i k) → ((x : A) → Goes (M x) (f x) L)
+  pub by_whole : (f : A → Parser B) (i j : Input) (y : B) (o : Outcome A) → ((x : A) (k : Input) → o ≡ Ok (x, k) → Going D (M x) i k) → ((x : A) → Goes (M x) (f x) L)
       → and_then o f ≡ Ok (y, j) → Going D (L y) i j
   by_whole f i j y (Err fault) first second e = cc
   by_whole f i j y (Ok r) first second e =
@@ -151,6 +98,19 @@ module _ {A B : Type 0} (D : Texts) (M : A → Texts) (L : B → Texts) where
 
   pub Goes-whole : (p : Parser A) (f : A → Parser B) → Goes D p M → ((x : A) → Goes (M x) (f x) L) → Goes D (p >>= f) L
   Goes-whole p f first second i j y e = by_whole f i j y (p i) (λ x k h. first i k x h) second e
+
+module _ {A B : Type 0} (D : Texts) (M : A → Texts) (L : B → Texts) where
+  pub Goes-bind : (p : Parser A) (f : A → Parser B) → Goes nothing p M → ((x : A) → Goes (D ▸ M x) (f x) L) → Goes D (p >>= f) L
+  Goes-bind p f first second = Goes-whole D (λ x. D ▸ M x) L p f (Goes-as D (λ x. D ▸ M x) M p first (λ x ls h. h)) second
+
+  -- the same, where the first rule is one of its own
+  pub Goes-then : (p : Parser A) (f : A → Parser B) → Spells p M → ((x : A) → Goes (D ▸ M x) (f x) L) → Goes D (p >>= f) L
+  Goes-then p f first second = Goes-whole D (λ x. D ▸ M x) L p f (Goes-last D (λ x. D ▸ M x) M p first (λ x ls h. h)) second
+
+module _ {A B : Type 0} (M : A → Texts) (L : B → Texts) where
+  -- the same, where nothing stands before
+  pub Goes-begin : (p : Parser A) (f : A → Parser B) → Spells p M → ((x : A) → Goes (M x) (f x) L) → Goes nothing (p >>= f) L
+  Goes-begin p f first second = Goes-whole nothing M L p f (Goes-last nothing M M p first (λ x ls h. nothing_joined h)) second
 
 -- ---- the ends of lines
 

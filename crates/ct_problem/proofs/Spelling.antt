@@ -69,29 +69,20 @@ Continues-pure L x h i j y before d e =
     moved (λ z used. L z (before ++ used)) i x y i j e (record { used = []; parts = refl; spells = subst (L x) (sym (append-nil before)) (h before d); follows = Follows-same i })
 
 module _ {A B : Type 0} (M : A → Texts) (L : B → Texts) where
-  by_first : {D : Texts} (f : A → Parser B) (i j : Input) (y : B) (before : List Lexeme) → D before → (o : Outcome A) → ((x : A) (k : Input) → o ≡ Ok (x, k) → Spelled (M x) i k) → ((x : A) → Continues (D ▸ M x) (f x) L)
-      → and_then o f ≡ Ok (y, j) → Spelled (λ used. L y (before ++ used)) i j
-  by_first f i j y before d (Err fault) first second e = cc
-  by_first f i j y before d (Ok r) first second e =
-      let s = first r.0 r.1 refl in
-      let t = second r.0 r.1 j y (before ++ s.used) (joined before s.used d s.spells) e in
-      record {
-        used = s.used ++ t.used;
-        parts = s.parts ∙ ap (λ ls. s.used ++ ls) t.parts ∙ sym (append_assoc s.used t.used (shown j));
-        spells = subst (L y) (append_assoc before s.used t.used) t.spells;
-        follows = Follows-then i r.1 j s.follows t.follows;
-      }
-
-  pub Continues-bind : {D : Texts} (p : Parser A) (f : A → Parser B) → Spells p M → ((x : A) → Continues (D ▸ M x) (f x) L) → Continues D (p >>= f) L
-  Continues-bind p f first second i j y before d e = by_first f i j y before d (p i) (λ x k h. first i k x h) second e
-
-  by_only : (f : A → Parser B) (i j : Input) (y : B) → (o : Outcome A) → ((x : A) (k : Input) → o ≡ Ok (x, k) → Spelled (M x) i k) → ((x : A) → Continues (M x) (f x) L)
+  by_first : (f : A → Parser B) (i j : Input) (y : B) → (o : Outcome A) → ((x : A) (k : Input) → o ≡ Ok (x, k) → Spelled (M x) i k) → ((x : A) → Continues (M x) (f x) L)
       → and_then o f ≡ Ok (y, j) → Spelled (L y) i j
-  by_only f i j y (Err fault) first second e = cc
-  by_only f i j y (Ok r) first second e = let s = first r.0 r.1 refl in Spelled-then (M r.0) (L y) i r.1 j s (second r.0 r.1 j y s.used s.spells e)
+  by_first f i j y (Err fault) first second e = cc
+  by_first f i j y (Ok r) first second e = let s = first r.0 r.1 refl in Spelled-then (M r.0) (L y) i r.1 j s (second r.0 r.1 j y s.used s.spells e)
 
   pub Spells-bind : (p : Parser A) (f : A → Parser B) → Spells p M → ((x : A) → Continues (M x) (f x) L) → Spells (p >>= f) L
-  Spells-bind p f first second i j y e = by_only f i j y (p i) (λ x k h. first i k x h) second e
+  Spells-bind p f first second i j y e = by_first f i j y (p i) (λ x k h. first i k x h) second e
+
+-- the same after what was taken before
+pub Continues-bind : {A B : Type 0} (M : A → Texts) (L : B → Texts) {D : Texts} (p : Parser A) (f : A → Parser B) → Spells p M → ((x : A) → Continues (D ▸ M x) (f x) L) → Continues D (p >>= f) L
+Continues-bind M L p f first second i j y before d e =
+    Spells-bind M (λ z used. L z (before ++ used)) p f first (λ x k m z taken t h.
+    let s = second x k m z (before ++ taken) (joined before taken d t) h in
+    Spelled-as _ _ k m (λ used l. subst (L z) (append_assoc before taken used) l) s) i j y e
 
 -- ---- the steps on lexemes
 
