@@ -29,6 +29,7 @@ pub mod SpelledTerms
 pub mod SpelledExpressions
 pub mod SpelledRuns
 pub mod SpelledLines
+pub mod SpelledLists
 pub mod SpelledNames
 pub mod SpelledLets
 pub mod SpelledDens

@@ -2,7 +2,7 @@
 use Rattle.std.proofs.Common.{◌≡◌, ℕ, zero, suc, ◌≤◌, Bool, true, false, cond, List, [], ◌∷◌, ◌++◌, length, Option, Some, None, Ok, refl, sym, ap, ◌∙◌, subst, arith, codes}
 use Rattle.std.specs.List.{position}
 use Rattle.std.specs.Str.{bytes_eq}
-use Rattle.std.proofs.lemmas.List.{append_assoc, append-nil}
+use Rattle.std.proofs.lemmas.List.{append_assoc}
 use Rattle.ct_token.specs.declared.token.Symbol.{Symbol}
 use Rattle.ct_token.specs.declared.token.Symbol.TheVariants as symbol
 use Rattle.ct_ore.specs.Naming.{Naming}
@@ -18,20 +18,20 @@ use Rattle.ct_problem.specs.Input.{Input, ◌>>=◌, ◌>>◌, pure, skip, next,
 use Rattle.ct_problem.specs.Input as input
 use Rattle.ct_problem.specs.Declarations.{new_name}
 use Rattle.ct_problem.specs.Expressions.{expression}
-use Rattle.ct_problem.specs.LetLines.{Definition, with_definitions, begins_expression, list_by, list_word, list_name, one_too_many, listed_from, two_lists, applied, form_by, let_word, form_of_word, let_form, definition, let_lines, let_lines_from}
+use Rattle.ct_problem.specs.LetLines.{with_definitions, begins_expression, list_by, list_word, list_name, one_too_many, listed_from, two_lists, applied, form_by, let_word, form_of_word, let_form, definition, let_lines, let_lines_from}
 use Rattle.ct_problem.specs.Lexemes.{Lexeme, Word, Sign, LineEnd, Texts, nothing, one, optional, ◌▸◌, each}
 use Rattle.ct_problem.specs.Grammar.{IsExpression}
 use Rattle.ct_problem.specs.GrammarLets as lets
 use Rattle.ct_problem.specs.GrammarLets.{IsList}
 use Rattle.ct_problem.specs.Names.{Names, is_named, known, known_by}
 use Rattle.ct_problem.specs.Number.{fault_if}
-use Rattle.ct_problem.proofs.JoinedTexts.{replaced, nothing_joined, joined_to_left, joined_to_right}
+use Rattle.ct_problem.proofs.JoinedTexts.{replaced, joined_to_left, joined_to_right}
 use Rattle.ct_problem.proofs.LexemeSteps.{shown, sees_word-shown, shown-symbol}
-use Rattle.ct_problem.proofs.Spelling.{Spelled, Spells, Continues, Spells-bind, Spells-eat_word, Spells-expect, Spells-eat, Continues-pure, Continues-bind, Continues-last, taken, after_taken, moved, shows_word-gives}
+use Rattle.ct_problem.proofs.Spelling.{Spelled, Spells, Continues, Spells-bind, Spells-expect, Spells-eat, Continues-pure, Continues-bind, Continues-last, taken, after_taken, moved, shows_word-gives}
 use Rattle.ct_problem.proofs.SpelledExpressions.{Spells-expression}
-use Rattle.ct_problem.proofs.SpelledLines.{Goes-past_test}
+use Rattle.ct_problem.proofs.SpelledLists.{Goes-all, Goes-key_lines}
 use Rattle.ct_problem.proofs.SpelledNames.{Spells-new_name}
-use Rattle.ct_problem.proofs.SpelledRuns.{Goes, Goes-pure, Goes-as, Goes-bind, Goes-whole, Goes-begin, Goes-then, Goes-line_end}
+use Rattle.ct_problem.proofs.SpelledRuns.{Goes, Goes-pure, Goes-bind, Goes-then, Goes-line_end}
 
 -- ---- lists by their names
 
@@ -180,40 +180,11 @@ module _ (names : Names) where
 
 -- ---- lines
 
-module _ (variables : List Naming) where
-  -- definitions after those that were found before
-  record MoreLets (room : ℕ) (found ds : List Definition) (ls : List Lexeme) : Type 0 where
-    more : List Definition
-    value : ds ≡ found ++ more
-    few : length more ≤ room
-    spelled : lets.let_lines_behind variables found more ls
-
-  no_let : (room : ℕ) (found : List Definition) (ls : List Lexeme) → nothing ls → MoreLets room found found ls
-  no_let room found ls none = record { more = []; value = sym (append-nil found); few = omega arith; spelled = none }
-
-  one_let : (n : ℕ) (found : List Definition) → ((d : Definition) → Goes nothing (let_lines_from variables n (found ++ d ∷ [])) (MoreLets n (found ++ d ∷ []))) → (more : Bool)
-      → Goes (optional (Word (codes "let")) more) (cond more (definition (with_definitions variables found) >>= (λ d. let_lines_from variables n (found ++ d ∷ []))) (pure found)) (MoreLets (suc n) found)
-  one_let n found others true =
-      Goes-whole (one (Word (codes "let"))) (lets.let_line (with_definitions variables found)) (MoreLets (suc n) found) (definition (with_definitions variables found)) (λ d. let_lines_from variables n (found ++ d ∷ [])) (Goes-definition (with_definitions variables found)) (λ d.
-      Goes-as (lets.let_line (with_definitions variables found) d) (MoreLets (suc n) found) (MoreLets n (found ++ d ∷ [])) (let_lines_from variables n (found ++ d ∷ [])) (others d) (λ es ls h.
-      let small = h.second.few in
-      record {
-        more = d ∷ h.second.more;
-        value = h.second.value ∙ append_assoc found (d ∷ []) h.second.more;
-        few = omega (arith, small);
-        spelled = replaced h h.second.spelled;
-      }))
-  one_let n found others false = Goes-pure nothing (MoreLets (suc n) found) found (no_let (suc n) found)
-
-  Goes-lines : (n : ℕ) (found : List Definition) → Goes nothing (let_lines_from variables n found) (MoreLets n found)
-  unfolding let_lines_from
-  Goes-lines zero found = Goes-past_test nothing (MoreLets 0 found) (codes "let") (pure found) (Goes-pure (nothing ▸ nothing) (MoreLets 0 found) found (λ ls h. no_let 0 found ls (nothing_joined h)))
-  Goes-lines (suc n) found = Goes-begin (optional (Word (codes "let"))) (MoreLets (suc n) found) (eat_word (codes "let")) _ (Spells-eat_word (codes "let")) (one_let n found (λ d. Goes-lines n (found ++ d ∷ [])))
-
-  pub Goes-let_lines : Goes nothing (let_lines variables) (lets.let_lines variables)
-  unfolding let_lines
-  Goes-let_lines =
-      Goes-as nothing (lets.let_lines variables) (MoreLets 8 []) (let_lines_from variables 8 []) (Goes-lines 8 []) (λ ds ls h.
-      let m = nothing_joined h in
-      let same = m.value in
-      (subst (λ (es : List Definition). length es ≤ 8) (sym same) m.few, subst (λ (es : List Definition). lets.let_lines_behind variables [] es ls) (sym same) m.spelled))
+pub Goes-let_lines : (variables : List Naming) → Goes nothing (let_lines variables) (lets.let_lines variables)
+unfolding let_lines let_lines_from
+Goes-let_lines variables =
+    Goes-all (lets.let_lines variables) (let_lines_from variables 8 [])
+    (Goes-key_lines (codes "let") (λ found. definition (with_definitions variables found)) (let_lines_from variables) (λ found. refl) (λ n found. refl)
+    (λ found. lets.let_line (with_definitions variables found)) (λ found. Goes-definition (with_definitions variables found))
+    (λ n found ds ls. (length ds ≤ n) × lets.let_lines_behind variables found ds ls) (λ n found ls u. (omega arith, u))
+    (λ n found d ds ls h. let few = h.second.0 in (omega (arith, few), replaced h h.second.1)) 8 [])

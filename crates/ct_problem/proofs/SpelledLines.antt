@@ -1,21 +1,19 @@
 -- What is read as a line, or as a list of lines, is spelled so.
-use Rattle.std.proofs.Common.{◌≡◌, ℕ, zero, suc, ◌≤◌, Bool, true, false, cond, List, [], ◌∷◌, ◌++◌, length, sym, ◌∙◌, subst, arith, codes}
-use Rattle.std.proofs.lemmas.List.{append_assoc, append-nil}
+use Rattle.std.proofs.Common.{ℕ, Bool, true, false, List, arith, codes}
 use Rattle.ct_expr.specs.declared.expr.Expr.{Expr}
 use Rattle.ct_problem.specs.declared.fault.BadKind.TheVariants.{TooMany}
-use Rattle.ct_problem.specs.Input.{Parser, ◌>>=◌, ◌>>◌, pure, look, eat_word, expect, expect_word, sees_word, line_end}
+use Rattle.ct_problem.specs.Input.{Parser, ◌>>◌, pure, look, expect, expect_word, sees_word, line_end}
 use Rattle.ct_problem.specs.Number.{fault_if}
 use Rattle.ct_problem.specs.Number as digits
 use Rattle.ct_problem.specs.Expressions.{expression}
 use Rattle.ct_problem.specs.Lines as read
 use Rattle.ct_problem.specs.Names.{Names}
 use Rattle.ct_problem.specs.ReportLines as rules
-use Rattle.ct_problem.specs.Lexemes.{Lexeme, Word, Number, Sign, LineEnd, Texts, nothing, one, optional, ◌▸◌, each}
+use Rattle.ct_problem.specs.Lexemes.{Lexeme, Word, Number, Sign, LineEnd, Texts, nothing, one, ◌▸◌}
 use Rattle.ct_problem.specs.Grammar.{IsExpression}
-use Rattle.ct_problem.specs.GrammarProblem.{header, value, keyed, values}
+use Rattle.ct_problem.specs.GrammarProblem.{header, value, keyed}
 use Rattle.ct_problem.specs.GrammarReport.{part}
-use Rattle.ct_problem.proofs.JoinedTexts.{nothing_joined, replaced}
-use Rattle.ct_problem.proofs.Spelling.{Spells-eat_word, Spells-expect, Spells-expect_word}
+use Rattle.ct_problem.proofs.Spelling.{Spells-expect, Spells-expect_word}
 use Rattle.ct_problem.proofs.SpelledSteps.{Spells-exactly}
 use Rattle.ct_problem.proofs.SpelledExpressions.{Spells-expression}
 use Rattle.ct_problem.proofs.SpelledRuns.{Goes, Goes-pure, Goes-look, Goes-fault, Goes-as, Goes-bind, Goes-whole, Goes-begin, Goes-then, Goes-line_end}
@@ -74,43 +72,3 @@ module _ (names : Names) where
     where
       L : Expr → Texts
       L = part names key operators text
-
-  -- ---- lists of lines
-
-  module _ (key : List ℕ) where
-    -- lines after those that were found before
-    record MoreValues (room : ℕ) (found xs : List Expr) (ls : List Lexeme) : Type 0 where
-      more : List Expr
-      value_is : xs ≡ found ++ more
-      few : length more ≤ room
-      spelled : each (keyed names key true) more ls
-
-    no_value : (room : ℕ) (found : List Expr) (ls : List Lexeme) → nothing ls → MoreValues room found found ls
-    no_value room found ls none = record { more = []; value_is = sym (append-nil found); few = omega arith; spelled = none }
-
-    one_value : (n : ℕ) (found : List Expr) → ((x : Expr) → Goes nothing (read.value_lines_from names key n (found ++ x ∷ [])) (MoreValues n (found ++ x ∷ []))) → (more : Bool)
-        → Goes (optional (Word key) more) (cond more (read.value names true >>= (λ x. read.value_lines_from names key n (found ++ x ∷ []))) (pure found)) (MoreValues (suc n) found)
-    one_value n found others true =
-        Goes-bind (one (Word key)) (value names true) (MoreValues (suc n) found) (read.value names true) _ (Goes-value true) (λ x.
-        Goes-as (one (Word key) ▸ value names true x) (MoreValues (suc n) found) (MoreValues n (found ++ x ∷ [])) (read.value_lines_from names key n (found ++ x ∷ [])) (others x) (λ xs ls h.
-        let small = h.second.few in
-        record {
-          more = x ∷ h.second.more;
-          value_is = h.second.value_is ∙ append_assoc found (x ∷ []) h.second.more;
-          few = omega (arith, small);
-          spelled = replaced h h.second.spelled;
-        }))
-    one_value n found others false = Goes-pure nothing (MoreValues (suc n) found) found (no_value (suc n) found)
-
-    Goes-more : (n : ℕ) (found : List Expr) → Goes nothing (read.value_lines_from names key n found) (MoreValues n found)
-    unfolding read.value_lines_from
-    Goes-more zero found = Goes-past_test nothing (MoreValues 0 found) key (pure found) (Goes-pure (nothing ▸ nothing) (MoreValues 0 found) found (λ ls h. no_value 0 found ls (nothing_joined h)))
-    Goes-more (suc n) found = Goes-begin (optional (Word key)) (MoreValues (suc n) found) (eat_word key) _ (Spells-eat_word key) (one_value n found (λ x. Goes-more n (found ++ x ∷ [])))
-
-    pub Goes-value_lines : Goes nothing (read.value_lines names key) (values names key)
-    unfolding read.value_lines
-    Goes-value_lines =
-        Goes-as nothing (values names key) (MoreValues 16 []) (read.value_lines_from names key 16 []) (Goes-more 16 []) (λ xs ls h.
-        let m = nothing_joined h in
-        let same = m.value_is in
-        (subst (λ (ys : List Expr). length ys ≤ 16) (sym same) m.few, subst (λ (ys : List Expr). each (keyed names key true) ys ls) (sym same) m.spelled))

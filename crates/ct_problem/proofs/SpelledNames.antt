@@ -28,7 +28,8 @@ use Rattle.ct_problem.proofs.LexemeSteps.{shown, after_first, sees_word-shown, s
 use Rattle.ct_problem.proofs.NewNames.{not_false}
 use Rattle.ct_problem.proofs.Spelling.{Spells, Continues, Spells-bind, Spells-eat_word, Spells-expect_word, Continues-pure, Continues-bind, taken, after_taken, moved, shows_word-gives}
 use Rattle.ct_problem.proofs.SpelledSteps.{first_read, test_failed}
-use Rattle.ct_problem.proofs.SpelledRuns.{Going, Goes, Goes-pure, Goes-fault, Goes-fault_if, Goes-seen, Goes-as, Goes-bind, Goes-whole, Goes-then, Goes-line_end, by_whole}
+use Rattle.ct_problem.proofs.SpelledLists.{More, Goes-found, Goes-one, Goes-all}
+use Rattle.ct_problem.proofs.SpelledRuns.{Going, Goes, Goes-pure, Goes-fault, Goes-fault_if, Goes-seen, Goes-bind, Goes-whole, Goes-then, Goes-line_end, by_whole}
 
 -- ---- a name that is declared
 
@@ -198,47 +199,41 @@ rooms_fit found (n ∷ ns) rooms w =
     subst AreWithin (append_assoc found (n ∷ []) ns)
     (rooms_fit (found ++ n ∷ []) ns rooms.1 (record { operators = omega (arith, operators-more found n, operators); summed = omega (arith, summed-more found n, summed) }))
 
--- names after those that were found before, at most so many
-record MoreNames (most : ℕ) (found ns : List Naming) (ls : List Lexeme) : Type 0 where
-  more : List Naming
-  value : ns ≡ found ++ more
-  few : length more ≤ most
-  rooms : Rooms found more
-  spelled : grammar.name_lines found more ls
+-- the lines of at most so many names, for which there is room
+record Lines (most : ℕ) (found ns : List Naming) (ls : List Lexeme) : Type 0 where
+  few : length ns ≤ most
+  rooms : Rooms found ns
+  spelled : grammar.name_lines found ns ls
 
-no_name : (most : ℕ) (found : List Naming) (ls : List Lexeme) → nothing ls → MoreNames most found found ls
-no_name most found ls none = record { more = []; value = sym (append-nil found); few = omega arith; rooms = tt; spelled = none }
-
-full_goes : (found : List Naming) (o : Option NameLine) → Goes nothing (full_by found o) (MoreNames 0 found)
-full_goes found None = Goes-pure nothing (MoreNames 0 found) found (no_name 0 found)
-full_goes found (Some line) = Goes-fault_if nothing (MoreNames 0 found) true TooMany (pure found) (λ h. absurd (false≢true (sym h)))
+no_name : (most : ℕ) (found : List Naming) (ls : List Lexeme) → nothing ls → Lines most found [] ls
+no_name most found ls none = record { few = omega arith; rooms = tt; spelled = none }
 
 -- what is read after these names
-Others : ℕ → List Naming → Type 0
-Others n found = (x : Naming) → Goes nothing (declarations_from n (found ++ x ∷ [])) (MoreNames n (found ++ x ∷ []))
+Names_after : ℕ → List Naming → List Naming → Texts
+Names_after n found = More (Lines n found) found
 
-one_name : (n : ℕ) (found : List Naming) → Others n found → (x : Naming) → Goes (Line found x) (declarations_from n (found ++ x ∷ [])) (MoreNames (suc n) found)
-unfolding Others
-one_name n found others x =
-    Goes-as (Line found x) (MoreNames (suc n) found) (MoreNames n (found ++ x ∷ [])) (declarations_from n (found ++ x ∷ [])) (others x) (λ ns ls h.
+full_goes : (found : List Naming) (o : Option NameLine) → Goes nothing (full_by found o) (Names_after 0 found)
+unfolding Names_after
+full_goes found None = Goes-found nothing (Lines 0 found) found (no_name 0 found)
+full_goes found (Some line) = Goes-fault_if nothing (More (Lines 0 found) found) true TooMany (pure found) (λ h. absurd (false≢true (sym h)))
+
+one_name : (n : ℕ) (found : List Naming) (x : Naming) → Goes nothing (declarations_from n (found ++ x ∷ [])) (Names_after n (found ++ x ∷ [])) → Goes (Line found x) (declarations_from n (found ++ x ∷ [])) (Names_after (suc n) found)
+unfolding Names_after
+one_name n found x others =
+    Goes-one (Line found x) (Lines (suc n) found) (Lines n (found ++ x ∷ [])) found x (declarations_from n (found ++ x ∷ [])) (λ ns ls h.
     let few = h.second.few in
-    record {
-      more = x ∷ h.second.more;
-      value = h.second.value ∙ append_assoc found (x ∷ []) h.second.more;
-      few = omega (arith, few);
-      rooms = (h.first.room, h.second.rooms);
-      spelled = record { front = h.front; back = h.back; parts = h.parts; first = h.first.spelled; second = h.second.spelled };
-    })
+    record { few = omega (arith, few); rooms = (h.first.room, h.second.rooms); spelled = record { front = h.front; back = h.back; parts = h.parts; first = h.first.spelled; second = h.second.spelled } }) others
 
-line_goes : (n : ℕ) (found : List Naming) → Others n found → (i j : Input) (ns : List Naming) (o : Option NameLine) → name_line i ≡ o
-    → declarations_by (λ line. declaration line found >>= (λ naming. declarations_from n (found ++ naming ∷ []))) found o i ≡ Ok (ns, j) → Going nothing (MoreNames (suc n) found ns) i j
-line_goes n found others i j ns None e h = Goes-pure nothing (MoreNames (suc n) found) found (no_name (suc n) found) i j ns h
+line_goes : (n : ℕ) (found : List Naming) → ((x : Naming) → Goes nothing (declarations_from n (found ++ x ∷ [])) (Names_after n (found ++ x ∷ []))) → (i j : Input) (ns : List Naming) (o : Option NameLine) → name_line i ≡ o
+    → declarations_by (λ line. declaration line found >>= (λ naming. declarations_from n (found ++ naming ∷ []))) found o i ≡ Ok (ns, j) → Going nothing (Names_after (suc n) found ns) i j
+unfolding Names_after
+line_goes n found others i j ns None e h = Goes-found nothing (Lines (suc n) found) found (no_name (suc n) found) i j ns h
 line_goes n found others i j ns (Some line) e h =
-    by_whole nothing (Line found) (MoreNames (suc n) found) (λ naming. declarations_from n (found ++ naming ∷ [])) i j ns (declaration line found i) (λ x k read. declared_is found line i k x e read) (one_name n found others) h
+    by_whole nothing (Line found) (More (Lines (suc n) found) found) (λ naming. declarations_from n (found ++ naming ∷ [])) i j ns (declaration line found i) (λ x k read. declared_is found line i k x e read) (λ x. one_name n found x (others x)) h
 
-Goes-lines : (n : ℕ) (found : List Naming) → Goes nothing (declarations_from n found) (MoreNames n found)
-unfolding declarations_from Others
-Goes-lines zero found = Goes-seen nothing (MoreNames 0 found) name_line (full_by found) (full_goes found)
+Goes-lines : (n : ℕ) (found : List Naming) → Goes nothing (declarations_from n found) (Names_after n found)
+unfolding declarations_from Names_after
+Goes-lines zero found = Goes-seen nothing (More (Lines 0 found) found) name_line (full_by found) (full_goes found)
 Goes-lines (suc n) found = λ i j ns h. line_goes n found (λ x. Goes-lines n (found ++ x ∷ [])) i j ns (name_line i) refl h
 
 -- the lines of as many names as there may be
@@ -247,20 +242,15 @@ pub record FewNames (ns : List Naming) (ls : List Lexeme) : Type 0 where
   pub spelled : grammar.name_lines [] ns ls
 
 pub Goes-declarations : Goes nothing declarations FewNames
-unfolding declarations
-Goes-declarations = Goes-whole nothing (MoreNames 6 []) FewNames (declarations_from 6 []) some_names (Goes-lines 6 []) by
+unfolding declarations Names_after
+Goes-declarations = Goes-whole nothing (Lines 6 []) FewNames (declarations_from 6 []) some_names (Goes-all (Lines 6 []) (declarations_from 6 []) (Goes-lines 6 [])) by
   where
-    by : (ns : List Naming) → Goes (MoreNames 6 [] ns) (some_names ns) FewNames
-    by [] = Goes-fault (MoreNames 6 [] []) FewNames Syntax
-    by (n ∷ ns) = Goes-pure (MoreNames 6 [] (n ∷ ns)) FewNames (n ∷ ns) (λ ls h.
+    by : (ns : List Naming) → Goes (Lines 6 [] ns) (some_names ns) FewNames
+    by [] = Goes-fault (Lines 6 [] []) FewNames Syntax
+    by (n ∷ ns) = Goes-pure (Lines 6 [] (n ∷ ns)) FewNames (n ∷ ns) (λ ls h.
         let few = h.few in
-        let within = rooms_fit [] h.more h.rooms (record { operators = omega arith; summed = omega arith }) in
+        let within = rooms_fit [] (n ∷ ns) h.rooms (record { operators = omega arith; summed = omega arith }) in
         record {
-          few = record {
-            some = omega arith;
-            few = let same = ap length h.value in omega (arith, same, few);
-            few_operators = subst (λ (ms : List Naming). count_by has_operator ms ≤ 4) (sym h.value) within.operators;
-            few_summed = subst (λ (ms : List Naming). length (summed_texts ms) ≤ 3) (sym h.value) within.summed;
-          };
-          spelled = subst (λ (ms : List Naming). grammar.name_lines [] ms ls) (sym h.value) h.spelled;
+          few = record { some = omega arith; few = omega (arith, few); few_operators = within.operators; few_summed = within.summed };
+          spelled = h.spelled;
         })

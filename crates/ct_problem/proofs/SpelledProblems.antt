@@ -25,7 +25,8 @@ use Rattle.ct_problem.proofs.JoinedTexts.{joined_nothing, replaced, nothing_join
 use Rattle.ct_problem.proofs.Spelling.{Spells, Spells-bind, Spells-eat_word, Continues-pure, Continues-bind, moved}
 use Rattle.ct_problem.proofs.SpelledDens.{Goes-den_lines}
 use Rattle.ct_problem.proofs.SpelledLets.{Spells-list_name, Goes-let_lines}
-use Rattle.ct_problem.proofs.SpelledLines.{Goes-header, Goes-past_test, Goes-value_lines}
+use Rattle.ct_problem.proofs.SpelledLines.{Goes-header, Goes-past_test}
+use Rattle.ct_problem.proofs.SpelledLists.{Goes-value_lines}
 use Rattle.ct_problem.proofs.SpelledNames.{FewNames, Goes-declarations}
 use Rattle.ct_problem.proofs.SpelledRuns.{Goes, Goes-pure, Goes-bind, Goes-whole, Goes-begin, Goes-then, Goes-line_end, Goes-fresh_line}
 use Rattle.ct_problem.proofs.SpelledSteps.{test_failed, Coming-taken, Spells-coming, Spells-dots, Spells-number}

@@ -28,9 +28,9 @@ use Rattle.ct_problem.proofs.JoinedTexts.{joined, nothing_joined, on_first, repl
 use Rattle.ct_problem.proofs.LexemeSteps.{shown}
 use Rattle.ct_problem.proofs.Spelling.{Spelled, Spells-expect_word}
 use Rattle.ct_problem.proofs.SpelledLines.{Goes-header, Goes-keyed}
-use Rattle.ct_problem.proofs.SpelledRuns.{Goes, Goes-as, goes_on_before}
+use Rattle.ct_problem.proofs.SpelledRuns.{Goes, goes_on_before}
 use Rattle.ct_problem.proofs.SpelledSteps.{first_read, LineEnded, line_end-gives}
-use Rattle.ct_problem.proofs.SpelledReports.{Place, AreCofactors, MoreWith, all_with, Goes-found_line, Goes-quotients, Goes-factors, Goes-cofactors}
+use Rattle.ct_problem.proofs.SpelledReports.{Place, AreCofactors, Goes-found_line, Goes-quotients, Goes-factors, Goes-cofactors}
 use Rattle.ct_problem.proofs.PlainEnds.{plain_is_lexical, no_word_is_last}
 
 -- ---- the lines before the last one
@@ -95,9 +95,9 @@ Closes-report variables count low =
     Closes-bind nothing (λ (_ : Unit {0}). H) L (read.header (codes "report")) _ (Goes-header (codes "report")) (λ _.
     Closes-bind (nothing ▸ H) Place L rules.found_line _ Goes-found_line (λ place.
     Closes-bind (nothing ▸ H ▸ Place place) T L (rules.keyed names (codes "telescoper") true) _ (Goes-keyed names (codes "telescoper") true) (λ telescoper.
-    Closes-bind (nothing ▸ H ▸ Place place ▸ T telescoper) Q L (rules.quotients_from names summed []) _ (Goes-as nothing Q (MoreWith (quotient names) summed []) (rules.quotients_from names summed []) (Goes-quotients names summed []) (all_with (quotient names) summed)) (λ quotients.
+    Closes-bind (nothing ▸ H ▸ Place place ▸ T telescoper) Q L (rules.quotients_from names summed []) _ (Goes-quotients names summed) (λ quotients.
     Closes-bind (nothing ▸ H ▸ Place place ▸ T telescoper ▸ Q quotients) S L (rules.keyed names (codes "scale") false) _ (Goes-keyed names (codes "scale") false) (λ scale.
-    Closes-bind (nothing ▸ H ▸ Place place ▸ T telescoper ▸ Q quotients ▸ S scale) F L (rules.factors_of names summed []) _ (Goes-as nothing F (MoreWith (part names (codes "part") false) summed []) (rules.factors_of names summed []) (Goes-factors names summed []) (all_with (part names (codes "part") false) summed)) (λ factors.
+    Closes-bind (nothing ▸ H ▸ Place place ▸ T telescoper ▸ Q quotients ▸ S scale) F L (rules.factors_of names summed []) _ (Goes-factors names summed) (λ factors.
     Closes-bind (nothing ▸ H ▸ Place place ▸ T telescoper ▸ Q quotients ▸ S scale ▸ F factors) C L (rules.cofactors_from names 1 count []) _ (Goes-cofactors names count low) (λ xs.
     Closes-last (nothing ▸ H ▸ Place place ▸ T telescoper ▸ Q quotients ▸ S scale ▸ F factors ▸ C xs) L
     (record { index = place.0; order = place.1; degree = place.2; telescoper = telescoper; quotients = quotients; scale = scale; factors = factors; cofactors = xs })
