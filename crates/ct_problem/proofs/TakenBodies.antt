@@ -1,15 +1,12 @@
 -- Lexemes that stand for the lines of a problem before the last one are read as what they say. Main lemma `Takes-all_lines`.
 use Rattle.std.proofs.Common.{ℕ, List, [], Option, refl, arith, codes}
 use Rattle.ct_ore.specs.Naming.{Naming}
-use Rattle.ct_expr.specs.declared.expr.Expr.{Expr}
-use Rattle.ct_problem.specs.declared.problem.Gens.{Gens}
-use Rattle.ct_problem.specs.declared.problem.Range.{Range}
 use Rattle.ct_problem.specs.Declarations.{declarations}
-use Rattle.ct_problem.specs.DenLines.{Dens, den_lines}
+use Rattle.ct_problem.specs.DenLines.{den_lines}
 use Rattle.ct_problem.specs.GrammarLets as lets
 use Rattle.ct_problem.specs.GrammarProblem as grammar
 use Rattle.ct_problem.specs.GrammarProblem.{AreFew}
-use Rattle.ct_problem.specs.Input.{Parser, ◌>>=◌, ◌>>◌, pure, fresh_line}
+use Rattle.ct_problem.specs.Input.{Parser, ◌>>=◌, pure, fresh_line}
 use Rattle.ct_problem.specs.LetLines.{Definition, let_lines}
 use Rattle.ct_problem.specs.Lexemes.{Texts, nothing, ◌▸◌}
 use Rattle.ct_problem.specs.Lines.{value_lines}
@@ -36,11 +33,11 @@ module _ (bad : Option ℕ) where
       → Takes bad head (variables, definitions) (grammar.header (codes "problem") ▸ grammar.name_lines [] variables ▸ lets.let_lines variables definitions) (AfterLines bad 2)
   unfolding head
   Takes-head variables definitions few =
-      Takes-to_right bad Header Lines Lets (AfterLines bad 2) (fresh_line >> after_fresh) h
-      (Takes-as bad (nothing ▸ (Header ▸ (Lines ▸ Lets))) (Header ▸ (Lines ▸ Lets)) (AfterLines bad 2) (AfterLines bad 2) (fresh_line >> after_fresh) h (λ ls m. record { front = []; back = ls; parts = refl; first = refl; second = m }) (λ rest a. a)
-      (Takes-bind bad tt h nothing (Header ▸ (Lines ▸ Lets)) (IsFresh bad) (AfterLines bad 2) fresh_line (λ _. after_fresh) (Takes-fresh_line bad)
-      (Takes-bind bad tt h Header (Lines ▸ Lets) (IsFresh bad) (AfterLines bad 2) (read.header (codes "problem")) (λ _. after_header) (Takes-header bad (codes "problem"))
-      (Takes-bind bad variables h Lines Lets (AfterLines bad 1) (AfterLines bad 2) declarations after_names (Takes-declarations bad variables few)
+      Takes-to_right bad Header Lines Lets (AfterLines bad 2) head h
+      (Takes-as bad (nothing ▸ (Header ▸ (Lines ▸ Lets))) (Header ▸ (Lines ▸ Lets)) (AfterLines bad 2) (AfterLines bad 2) head h (λ ls m. record { front = []; back = ls; parts = refl; first = refl; second = m }) (λ rest a. a)
+      (Takes-bind bad tt h nothing (Header ▸ (Lines ▸ Lets)) (IsFresh bad) (AfterLines bad 2) fresh_line _ (Takes-fresh_line bad)
+      (Takes-bind bad tt h Header (Lines ▸ Lets) (IsFresh bad) (AfterLines bad 2) (read.header (codes "problem")) _ (Takes-header bad (codes "problem"))
+      (Takes-bind bad variables h Lines Lets (AfterLines bad 1) (AfterLines bad 2) declarations _ (Takes-declarations bad variables few)
       (Takes-last bad definitions h Lets (AfterLines bad 2) (let_lines variables) (λ ds. pure (variables, ds)) (Takes-let_lines bad variables definitions) (λ k. refl))
       (leads_lets bad variables definitions))
       (λ back rest m a. fresh_before bad back rest a.fresh))
@@ -57,15 +54,6 @@ module _ (bad : Option ℕ) where
 
       Lets : Texts
       Lets = lets.let_lines variables definitions
-
-      after_names : List Naming → Parser (List Naming × List Definition)
-      after_names vs = let_lines vs >>= (λ ds. pure (vs, ds))
-
-      after_header : Parser (List Naming × List Definition)
-      after_header = declarations >>= after_names
-
-      after_fresh : Parser (List Naming × List Definition)
-      after_fresh = read.header (codes "problem") >> after_header
 
   -- ---- the lines behind
 
@@ -106,27 +94,12 @@ module _ (bad : Option ℕ) where
     Takes-body : Takes bad (body p.variables p.definitions) p (Generators ▸ (Denominators ▸ (Targets ▸ (Orders ▸ Degrees)))) (AfterLines bad 8)
     unfolding body
     Takes-body =
-        Takes-bind bad p.generators p Generators (Denominators ▸ (Targets ▸ (Orders ▸ Degrees))) (AfterLines bad 4) (AfterLines bad 8) (generators names) after_generators (Takes-generators bad names p.generators)
-        (Takes-bind bad p.dens p Denominators (Targets ▸ (Orders ▸ Degrees)) (AfterLines bad 5) (AfterLines bad 8) (den_lines names) (after_dens p.generators) (Takes-den_lines bad names p.dens)
-        (Takes-bind bad p.targets p Targets (Orders ▸ Degrees) (AfterLines bad 6) (AfterLines bad 8) (value_lines names (codes "target")) (after_targets p.generators p.dens) Takes-targets
-        (Takes-bind bad p.orders p Orders Degrees (AfterLines bad 7) (AfterLines bad 8) (range_line (codes "order") 8) (after_orders p.generators p.dens p.targets) (Takes-range_line bad starts.Order 7 8 (omega arith) (omega arith) p.orders)
-        (Takes-last bad p.degrees p Degrees (AfterLines bad 8) (range_line (codes "degree") 12) (after_degrees p.generators p.dens p.targets p.orders) (Takes-range_line bad starts.Degree 8 12 (omega arith) (omega arith) p.degrees) (λ k. refl))
+        Takes-bind bad p.generators p Generators (Denominators ▸ (Targets ▸ (Orders ▸ Degrees))) (AfterLines bad 4) (AfterLines bad 8) (generators names) _ (Takes-generators bad names p.generators)
+        (Takes-bind bad p.dens p Denominators (Targets ▸ (Orders ▸ Degrees)) (AfterLines bad 5) (AfterLines bad 8) (den_lines names) _ (Takes-den_lines bad names p.dens)
+        (Takes-bind bad p.targets p Targets (Orders ▸ Degrees) (AfterLines bad 6) (AfterLines bad 8) (value_lines names (codes "target")) _ Takes-targets
+        (Takes-bind bad p.orders p Orders Degrees (AfterLines bad 7) (AfterLines bad 8) (range_line (codes "order") 8) _ (Takes-range_line bad starts.Order 7 8 (omega arith) (omega arith) p.orders)
+        (Takes-last bad p.degrees p Degrees (AfterLines bad 8) (range_line (codes "degree") 12) (λ degrees. pure (record p { degrees = degrees })) (Takes-range_line bad starts.Degree 8 12 (omega arith) (omega arith) p.degrees) (λ k. refl))
         leads_degrees) leads_orders) leads_targets) leads_behind_generators
-      where
-        after_degrees : Gens → Dens → List Expr → Option Range → Option Range → Parser Reading
-        after_degrees gens dens targets orders degrees = pure (record { variables = p.variables; definitions = p.definitions; generators = gens; dens = dens; targets = targets; orders = orders; degrees = degrees })
-
-        after_orders : Gens → Dens → List Expr → Option Range → Parser Reading
-        after_orders gens dens targets orders = range_line (codes "degree") 12 >>= after_degrees gens dens targets orders
-
-        after_targets : Gens → Dens → List Expr → Parser Reading
-        after_targets gens dens targets = range_line (codes "order") 8 >>= after_orders gens dens targets
-
-        after_dens : Gens → Dens → Parser Reading
-        after_dens gens dens = value_lines names (codes "target") >>= after_targets gens dens
-
-        after_generators : Gens → Parser Reading
-        after_generators gens = den_lines names >>= after_dens gens
 
     pub Takes-all_lines : AreFew p.variables → Takes bad (head >>= (λ h. body h.0 h.1)) p (grammar.lines p) (AfterLines bad 8)
     Takes-all_lines few =

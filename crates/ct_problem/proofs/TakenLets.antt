@@ -2,7 +2,7 @@
 use Rattle.std.proofs.Common.{◌≡◌, ℕ, zero, suc, ◌≤◌, Bool, true, false, cond, List, [], ◌∷◌, ◌++◌, length, Option, Some, None, refl, sym, ap, ◌∙◌, subst, arith, codes}
 use Rattle.std.specs.List.{position}
 use Rattle.std.specs.Str.{bytes_eq}
-use Rattle.std.proofs.lemmas.List.{append_assoc, append-nil}
+use Rattle.std.proofs.lemmas.List.{append_assoc}
 use Rattle.ct_token.specs.declared.token.Symbol.{Symbol}
 use Rattle.ct_ore.specs.Naming.{Naming}
 use Rattle.ct_expr.specs.declared.expr.Expr.{Expr}
@@ -12,11 +12,10 @@ use Rattle.ct_problem.specs.declared.reading.let_lines.LetWord.{LetWord}
 use Rattle.ct_problem.specs.declared.reading.let_lines.LetWord.TheVariants.{Gens, Plus, Product, Apply}
 use Rattle.ct_problem.specs.declared.reading.names.Known.{Known}
 use Rattle.ct_problem.specs.declared.reading.names.Known.TheVariants.{Let}
-use Rattle.ct_problem.specs.Input.{Input, Parser, ◌>>=◌, ◌>>◌, pure, skip, eat, eat_word, expect, line_end, sees_word}
+use Rattle.ct_problem.specs.Input.{Input, Parser, ◌>>=◌, ◌>>◌, pure, skip, eat, expect, line_end, sees_word}
 use Rattle.ct_problem.specs.Declarations.{new_name}
 use Rattle.ct_problem.specs.Expressions.{expression}
 use Rattle.ct_problem.specs.LetLines.{Definition, with_definitions, list_by, list_word, list_name, listed_from, two_lists, applied, form_by, let_word, form_of_word, let_form, definition, let_lines, let_lines_from}
-use Rattle.ct_problem.specs.Lines as read
 use Rattle.ct_problem.specs.Lexemes.{Lexeme, Word, Sign, LineEnd, Texts, nothing, one, ◌▸◌, each}
 use Rattle.ct_problem.specs.Grammar.{IsExpression}
 use Rattle.ct_problem.specs.GrammarLets as lets
@@ -28,11 +27,11 @@ use Rattle.ct_problem.proofs.LexemeStarts.{AfterSum}
 use Rattle.ct_problem.proofs.LineStarts.{AfterLines, Leads, other_word, fresh_before, leads_nothing, leads_key}
 use Rattle.ct_problem.proofs.LineStarts as starts
 use Rattle.ct_problem.proofs.ShownSymbols.{shows_a_word, spelling-shown}
-use Rattle.ct_problem.proofs.Taking.{Taken-next, Takes, anywhere, Takes-as, Takes-value, Takes-to_right, Takes-bind, Takes-then, Takes-next, Takes-last, Takes-eat, Takes-no_sign, Takes-skip, Takes-eat_word, Takes-no_word, Takes-expect, headed}
+use Rattle.ct_problem.proofs.Taking.{Taken-next, Takes, anywhere, Takes-as, Takes-value, Takes-to_right, Takes-bind, Takes-then, Takes-next, Takes-last, Takes-eat, Takes-no_sign, Takes-skip, Takes-expect, headed}
 use Rattle.ct_problem.proofs.TakenExpressions.{Takes-expression}
 use Rattle.ct_problem.proofs.TakenNames.{Takes-new_name}
 use Rattle.ct_problem.proofs.TakenSteps.{IsFresh, Takes-line_end}
-use Rattle.ct_problem.proofs.TakenValues.{Takes-past}
+use Rattle.ct_problem.proofs.TakenValues.{Takes-key_lines}
 
 list_known : (letters : List ℕ) (names : Names) (at : ℕ) → IsList names letters at → known letters names ≡ Let at
 unfolding known
@@ -159,36 +158,16 @@ module _ (bad : Option ℕ) (names : Names) where
 -- ---- lines
 
 module _ (bad : Option ℕ) (variables : List Naming) where
-  abbrev more_by : ℕ → List Definition → Bool → Parser (List Definition)
-  more_by n found more = cond more (definition (with_definitions variables found) >>= (λ d. let_lines_from variables n (found ++ d ∷ []))) (pure found)
-
-  Takes-lines : (more found : List Definition) (n : ℕ) → length more ≤ n → Takes bad (let_lines_from variables n found) (found ++ more) (lets.let_lines_behind variables found more) (AfterLines bad 2)
-  unfolding let_lines_from
-  Takes-lines [] found zero enough = Takes-value bad nothing (AfterLines bad 2) (read.no_more (codes "let") >> pure found) found (found ++ []) (sym (append-nil found)) (Takes-past bad (codes "let") 2 found (omega arith))
-  Takes-lines [] found (suc n) enough =
-      Takes-value bad nothing (AfterLines bad 2) (eat_word (codes "let") >>= more_by n found) found (found ++ []) (sym (append-nil found))
-      (Takes-as bad nothing nothing (λ rest. shows_word (codes "let") rest ≡ false) (AfterLines bad 2) (eat_word (codes "let") >>= more_by n found) found (λ ls h. h) (λ rest a. other_word (codes "let") 2 rest (omega arith) a.from)
-      (Takes-last bad false found nothing (λ rest. shows_word (codes "let") rest ≡ false) (eat_word (codes "let")) (more_by n found) (Takes-no_word bad (codes "let")) (λ k. refl)))
-  Takes-lines (d ∷ more) found zero enough = let no : ⊥ = omega (arith, enough) in absurd no
-  Takes-lines (d ∷ more) found (suc n) enough =
-      Takes-value bad (lets.let_lines_behind variables found (d ∷ more)) (AfterLines bad 2) (eat_word (codes "let") >>= more_by n found) ((found ++ d ∷ []) ++ more) (found ++ d ∷ more) (append_assoc found (d ∷ []) more)
-      (Takes-as bad (one (Word (codes "let")) ▸ (Line ▸ Rest)) (lets.let_lines_behind variables found (d ∷ more)) (AfterLines bad 2) (AfterLines bad 2) (eat_word (codes "let") >>= more_by n found) ((found ++ d ∷ []) ++ more) (λ ls h. apart ls h) (λ rest a. a)
-      (Takes-then bad true ((found ++ d ∷ []) ++ more) (one (Word (codes "let"))) (Line ▸ Rest) (AfterLines bad 2) (eat_word (codes "let")) (more_by n found) (Takes-eat_word bad (codes "let"))
-      (Takes-bind bad d ((found ++ d ∷ []) ++ more) Line Rest (IsFresh bad) (AfterLines bad 2) (definition (with_definitions variables found)) (λ e. let_lines_from variables n (found ++ e ∷ [])) (Takes-definition bad (with_definitions variables found) d)
-      (Takes-lines more (found ++ d ∷ []) n (omega (arith, enough))) (λ back rest h after. fresh_before bad back rest after.fresh))))
-    where
-      Line : Texts
-      Line = lets.declared (with_definitions variables found) d.text ▸ (one (Sign 61) ▸ (lets.let_form (with_definitions variables found) d.form ▸ one LineEnd))
-
-      Rest : Texts
-      Rest = lets.let_lines_behind variables (found ++ d ∷ []) more
-
-      apart : (ls : List Lexeme) → lets.let_lines_behind variables found (d ∷ more) ls → (one (Word (codes "let")) ▸ (Line ▸ Rest)) ls
-      apart ls h = joined_to_right (on_first (λ xs k. joined_to_right (joined_to_right (joined_to_right k))) h)
+  -- a definition behind its first word
+  Line : List Definition → Definition → Texts
+  Line found d = lets.declared (with_definitions variables found) d.text ▸ (one (Sign 61) ▸ (lets.let_form (with_definitions variables found) d.form ▸ one LineEnd))
 
   pub Takes-let_lines : (ds : List Definition) → Takes bad (let_lines variables) ds (lets.let_lines variables ds) (AfterLines bad 2)
-  unfolding let_lines
-  Takes-let_lines ds i used rest here e u after = Takes-lines ds [] 8 u.0 i used rest here e u.1 after
+  unfolding let_lines let_lines_from Line
+  Takes-let_lines ds i used rest here e u after =
+      Takes-key_lines bad starts.Let 2 (omega arith) (λ found. definition (with_definitions variables found)) (let_lines_from variables) (λ found. refl) (λ n found. refl)
+      Line (λ found d. Takes-definition bad (with_definitions variables found) d) (lets.let_lines_behind variables) (λ found ls u. u)
+      (λ found d more ls h. joined_to_right (on_first (λ xs k. joined_to_right (joined_to_right (joined_to_right k))) h)) ds [] 8 u.0 i used rest here e u.1 after
 
   pub leads_lets : (ds : List Definition) → Leads bad 1 2 (lets.let_lines variables ds)
   leads_lets [] = λ back rest u a. leads_nothing bad 1 2 (omega arith) back rest u.1 a

@@ -115,12 +115,12 @@ Takes-report variables r few =
     Takes-to_right None _ _ _ nothing p r (Takes-to_right None _ _ _ nothing p r (Takes-to_right None _ _ _ nothing p r
     (Takes-to_right None _ _ _ nothing p r (Takes-to_right None _ _ _ nothing p r (Takes-to_right None _ _ _ nothing p r
     (Takes-next None tt r (header (codes "report")) _ nothing (read.header (codes "report")) _ (Takes-header None (codes "report"))
-    (Takes-then None (r.index, r.order, r.degree) r (found_line r.index r.order r.degree) _ nothing rules.found_line after_place (Takes-found_line names r.index r.order r.degree)
-    (Takes-then None r.telescoper r (keyed names (codes "telescoper") true r.telescoper) _ nothing (rules.keyed names (codes "telescoper") true) (after_telescoper (r.index, r.order, r.degree)) (Takes-keyed None names (codes "telescoper") true r.telescoper)
-    (Takes-then None r.quotients r (each_with (quotient names) summed r.quotients) _ nothing (rules.quotients_from names summed []) (after_quotients (r.index, r.order, r.degree) r.telescoper) (Takes-quotients names summed r.quotients [])
-    (Takes-then None r.scale r (keyed names (codes "scale") false r.scale) _ nothing (rules.keyed names (codes "scale") false) (after_scale (r.index, r.order, r.degree) r.telescoper r.quotients) (Takes-keyed None names (codes "scale") false r.scale)
-    (Takes-then None r.factors r (each_with (part names (codes "part") false) summed r.factors) _ nothing (rules.factors_of names summed []) (after_factors (r.index, r.order, r.degree) r.telescoper r.quotients r.scale) (Takes-factors_of names summed r.factors [])
-    (Takes-then None r.cofactors r (cofactors names 1 r.cofactors) last_line nothing (rules.cofactors_from names 1 (length r.cofactors) []) (after_cofactors (r.index, r.order, r.degree) r.telescoper r.quotients r.scale r.factors) (Takes-cofactors names 1 r.cofactors [] (omega (arith, few)))
+    (Takes-then None (r.index, r.order, r.degree) r (found_line r.index r.order r.degree) _ nothing rules.found_line _ (Takes-found_line names r.index r.order r.degree)
+    (Takes-then None r.telescoper r (keyed names (codes "telescoper") true r.telescoper) _ nothing (rules.keyed names (codes "telescoper") true) _ (Takes-keyed None names (codes "telescoper") true r.telescoper)
+    (Takes-then None r.quotients r (each_with (quotient names) summed r.quotients) _ nothing (rules.quotients_from names summed []) _ (Takes-quotients names summed r.quotients [])
+    (Takes-then None r.scale r (keyed names (codes "scale") false r.scale) _ nothing (rules.keyed names (codes "scale") false) _ (Takes-keyed None names (codes "scale") false r.scale)
+    (Takes-then None r.factors r (each_with (part names (codes "part") false) summed r.factors) _ nothing (rules.factors_of names summed []) _ (Takes-factors_of names summed r.factors [])
+    (Takes-then None r.cofactors r (cofactors names 1 r.cofactors) last_line nothing (rules.cofactors_from names 1 (length r.cofactors) []) _ (Takes-cofactors names 1 r.cofactors [] (omega (arith, few)))
     (Takes-last None tt r last_line nothing rules.finish (λ _. pure r) (Takes-finish names) (λ k. refl))))))))))))))
   where
     names : Names
@@ -131,21 +131,3 @@ Takes-report variables r few =
 
     p : Parser Report
     p = rules.report variables (length r.cofactors)
-
-    after_cofactors : ℕ × ℕ × ℕ → Expr → List Quotient → Expr → List Expr → List Expr → Parser Report
-    after_cofactors place telescoper quotients scale factors xs = rules.finish >> pure (record { index = place.0; order = place.1; degree = place.2; telescoper = telescoper; quotients = quotients; scale = scale; factors = factors; cofactors = xs })
-
-    after_factors : ℕ × ℕ × ℕ → Expr → List Quotient → Expr → List Expr → Parser Report
-    after_factors place telescoper quotients scale factors = rules.cofactors_from names 1 (length r.cofactors) [] >>= after_cofactors place telescoper quotients scale factors
-
-    after_scale : ℕ × ℕ × ℕ → Expr → List Quotient → Expr → Parser Report
-    after_scale place telescoper quotients scale = rules.factors_of names summed [] >>= after_factors place telescoper quotients scale
-
-    after_quotients : ℕ × ℕ × ℕ → Expr → List Quotient → Parser Report
-    after_quotients place telescoper quotients = rules.keyed names (codes "scale") false >>= after_scale place telescoper quotients
-
-    after_telescoper : ℕ × ℕ × ℕ → Expr → Parser Report
-    after_telescoper place telescoper = rules.quotients_from names summed [] >>= after_quotients place telescoper
-
-    after_place : ℕ × ℕ × ℕ → Parser Report
-    after_place place = rules.keyed names (codes "telescoper") true >>= after_telescoper place

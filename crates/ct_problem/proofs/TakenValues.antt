@@ -1,5 +1,5 @@
 -- Lexemes that stand for lines with values are read as what they stand for.
-use Rattle.std.proofs.Common.{◌≡◌, ℕ, zero, suc, ◌<◌, ◌≤◌, Bool, true, false, cond, Option, List, [], ◌∷◌, ◌++◌, length, refl, sym, ap, ◌∙◌, arith}
+use Rattle.std.proofs.Common.{◌≡◌, ℕ, zero, suc, ◌<◌, ◌≤◌, Bool, true, false, cond, Option, List, [], ◌∷◌, ◌++◌, length, refl, sym, ap, ◌∙◌, subst, arith}
 use Rattle.std.proofs.lemmas.List.{append_assoc, append-nil}
 use Rattle.ct_expr.specs.declared.expr.Expr.{Expr}
 use Rattle.ct_problem.specs.declared.fault.BadKind.TheVariants.{TooMany}
@@ -7,13 +7,13 @@ use Rattle.ct_problem.specs.Input.{Parser, ◌>>=◌, ◌>>◌, pure, sees_word,
 use Rattle.ct_problem.specs.Lines as read
 use Rattle.ct_problem.specs.Names.{Names}
 use Rattle.ct_problem.specs.Number.{fault_if}
-use Rattle.ct_problem.specs.Lexemes.{Word, Texts, nothing, one, ◌▸◌, each}
+use Rattle.ct_problem.specs.Lexemes.{Lexeme, Word, Texts, nothing, one, ◌▸◌, each}
 use Rattle.ct_problem.specs.GrammarProblem.{value, keyed}
 use Rattle.ct_problem.proofs.Following.{Follows-same}
 use Rattle.ct_problem.proofs.JoinedTexts.{joined_to_right}
 use Rattle.ct_problem.proofs.LexemeSteps.{shown, shows_word, sees_word-shown}
 use Rattle.ct_problem.proofs.LineStarts.{Key, word_of, rank, rank_of, AfterLines, Leads, other_word, fresh_before, leads_nothing, leads_key}
-use Rattle.ct_problem.proofs.Taking.{Takes, Takes-as, Takes-value, Takes-to_right, Takes-bind, Takes-then, Takes-last, Takes-eat_word, Takes-no_word}
+use Rattle.ct_problem.proofs.Taking.{Takes, Takes-as, Takes-value, Takes-bind, Takes-then, Takes-last, Takes-eat_word, Takes-no_word}
 use Rattle.ct_problem.proofs.TakenLines.{Takes-value_line}
 use Rattle.ct_problem.proofs.TakenSteps.{IsFresh}
 
@@ -32,31 +32,44 @@ module _ (bad : Option ℕ) where
       Takes-as bad nothing nothing (λ rest. shows_word key rest ≡ false) (AfterLines bad r) (read.no_more key >> pure x) x (λ ls h. h) (λ rest a. other_word key r rest below a.from)
       (Takes-last bad tt x nothing (λ rest. shows_word key rest ≡ false) (read.no_more key) (λ _. pure x) (Takes-no_more key) (λ k. refl))
 
+  -- at most so many lines that begin with this word
+  module _ {X : Type 0} (k : Key) (r : ℕ) (below : rank_of (word_of k) < r) (line : List X → Parser X) (from : ℕ → List X → Parser (List X))
+      (stops : (found : List X) → from 0 found ≡ (read.no_more (word_of k) >> pure found))
+      (goes : (n : ℕ) (found : List X) → from (suc n) found ≡ (eat_word (word_of k) >>= (λ more. cond more (line found >>= (λ x. from n (found ++ x ∷ []))) (pure found))))
+      (L : List X → X → Texts) (line_takes : (found : List X) (x : X) → Takes bad (line found) x (L found x) (IsFresh bad))
+      (B : List X → List X → Texts) (none : (found : List X) (ls : List Lexeme) → B found [] ls → nothing ls)
+      (apart : (found : List X) (x : X) (xs : List X) (ls : List Lexeme) → B found (x ∷ xs) ls → (one (Word (word_of k)) ▸ (L found x ▸ B (found ++ x ∷ []) xs)) ls) where
+    abbrev more_by : ℕ → List X → Bool → Parser (List X)
+    more_by n found more = cond more (line found >>= (λ x. from n (found ++ x ∷ []))) (pure found)
+
+    abbrev Reads : List X → List X → Parser (List X) → Type 0
+    Reads found xs p = Takes bad p (found ++ xs) (B found xs) (AfterLines bad r)
+
+    pub Takes-key_lines : (xs found : List X) (n : ℕ) → length xs ≤ n → Takes bad (from n found) (found ++ xs) (B found xs) (AfterLines bad r)
+    Takes-key_lines [] found zero enough =
+        subst (Reads found []) (sym (stops found))
+        (Takes-value bad (B found []) (AfterLines bad r) (read.no_more (word_of k) >> pure found) found (found ++ []) (sym (append-nil found))
+        (Takes-as bad nothing (B found []) (AfterLines bad r) (AfterLines bad r) (read.no_more (word_of k) >> pure found) found (none found) (λ rest a. a) (Takes-past (word_of k) r found below)))
+    Takes-key_lines [] found (suc n) enough =
+        subst (Reads found []) (sym (goes n found))
+        (Takes-value bad (B found []) (AfterLines bad r) (eat_word (word_of k) >>= more_by n found) found (found ++ []) (sym (append-nil found))
+        (Takes-as bad nothing (B found []) (λ rest. shows_word (word_of k) rest ≡ false) (AfterLines bad r) (eat_word (word_of k) >>= more_by n found) found (none found) (λ rest a. other_word (word_of k) r rest below a.from)
+        (Takes-last bad false found nothing (λ rest. shows_word (word_of k) rest ≡ false) (eat_word (word_of k)) (more_by n found) (Takes-no_word bad (word_of k)) (λ i. refl))))
+    Takes-key_lines (x ∷ xs) found zero enough = let no : ⊥ = omega (arith, enough) in absurd no
+    Takes-key_lines (x ∷ xs) found (suc n) enough =
+        subst (Reads found (x ∷ xs)) (sym (goes n found))
+        (Takes-value bad (B found (x ∷ xs)) (AfterLines bad r) (eat_word (word_of k) >>= more_by n found) ((found ++ x ∷ []) ++ xs) (found ++ x ∷ xs) (append_assoc found (x ∷ []) xs)
+        (Takes-as bad (one (Word (word_of k)) ▸ (L found x ▸ B (found ++ x ∷ []) xs)) (B found (x ∷ xs)) (AfterLines bad r) (AfterLines bad r) (eat_word (word_of k) >>= more_by n found) ((found ++ x ∷ []) ++ xs) (apart found x xs) (λ rest a. a)
+        (Takes-then bad true ((found ++ x ∷ []) ++ xs) (one (Word (word_of k))) (L found x ▸ B (found ++ x ∷ []) xs) (AfterLines bad r) (eat_word (word_of k)) (more_by n found) (Takes-eat_word bad (word_of k))
+        (Takes-bind bad x ((found ++ x ∷ []) ++ xs) (L found x) (B (found ++ x ∷ []) xs) (IsFresh bad) (AfterLines bad r) (line found) (λ y. from n (found ++ y ∷ [])) (line_takes found x)
+        (Takes-key_lines xs (found ++ x ∷ []) n (omega (arith, enough))) (λ back rest h after. fresh_before bad back rest after.fresh)))))
+
   module _ (names : Names) (k : Key) (r : ℕ) (below : rank_of (word_of k) < r) where
-    abbrev Values : List Expr → Texts
-    Values = each (keyed names (word_of k) true)
-
-    abbrev more_by : ℕ → List Expr → Bool → Parser (List Expr)
-    more_by n found more = cond more (read.value names true >>= (λ x. read.value_lines_from names (word_of k) n (found ++ x ∷ []))) (pure found)
-
-    Takes-more : (more found : List Expr) (n : ℕ) → length more ≤ n → Takes bad (read.value_lines_from names (word_of k) n found) (found ++ more) (Values more) (AfterLines bad r)
-    unfolding read.value_lines_from
-    Takes-more [] found zero enough = Takes-value bad nothing (AfterLines bad r) (read.no_more (word_of k) >> pure found) found (found ++ []) (sym (append-nil found)) (Takes-past (word_of k) r found below)
-    Takes-more [] found (suc n) enough =
-        Takes-value bad nothing (AfterLines bad r) (eat_word (word_of k) >>= more_by n found) found (found ++ []) (sym (append-nil found))
-        (Takes-as bad nothing nothing (λ rest. shows_word (word_of k) rest ≡ false) (AfterLines bad r) (eat_word (word_of k) >>= more_by n found) found (λ ls h. h) (λ rest a. other_word (word_of k) r rest below a.from)
-        (Takes-last bad false found nothing (λ rest. shows_word (word_of k) rest ≡ false) (eat_word (word_of k)) (more_by n found) (Takes-no_word bad (word_of k)) (λ i. refl)))
-    Takes-more (x ∷ more) found zero enough = let no : ⊥ = omega (arith, enough) in absurd no
-    Takes-more (x ∷ more) found (suc n) enough =
-        Takes-value bad (Values (x ∷ more)) (AfterLines bad r) (eat_word (word_of k) >>= more_by n found) ((found ++ x ∷ []) ++ more) (found ++ x ∷ more) (append_assoc found (x ∷ []) more)
-        (Takes-to_right bad _ _ _ (AfterLines bad r) (eat_word (word_of k) >>= more_by n found) ((found ++ x ∷ []) ++ more)
-        (Takes-then bad true ((found ++ x ∷ []) ++ more) (one (Word (word_of k))) (value names true x ▸ Values more) (AfterLines bad r) (eat_word (word_of k)) (more_by n found) (Takes-eat_word bad (word_of k))
-        (Takes-bind bad x ((found ++ x ∷ []) ++ more) (value names true x) (Values more) (IsFresh bad) (AfterLines bad r) (read.value names true) (λ y. read.value_lines_from names (word_of k) n (found ++ y ∷ [])) (Takes-value_line bad names true x)
-        (Takes-more more (found ++ x ∷ []) n (omega (arith, enough))) (λ back rest h after. fresh_before bad back rest after.fresh))))
-
     pub Takes-values : (xs : List Expr) → length xs ≤ 16 → Takes bad (read.value_lines names (word_of k)) xs (each (keyed names (word_of k) true) xs) (AfterLines bad r)
-    unfolding read.value_lines
-    Takes-values xs few = Takes-more xs [] 16 few
+    unfolding read.value_lines read.value_lines_from
+    Takes-values xs few =
+        Takes-key_lines k r below (λ _. read.value names true) (read.value_lines_from names (word_of k)) (λ found. refl) (λ n found. refl) (λ _. value names true) (λ _. Takes-value_line bad names true)
+        (λ _. each (keyed names (word_of k) true)) (λ _ ls u. u) (λ _ x more ls h. joined_to_right h) xs [] 16 few
 
   pub leads_values : (names : Names) (k : Key) (r s : ℕ) → r ≤ rank k → r ≤ s → (xs : List Expr) → Leads bad r s (each (keyed names (word_of k) true) xs)
   leads_values names k r s low below [] = leads_nothing bad r s below
