@@ -4,7 +4,7 @@ use Rattle.std.specs.List.{count_by}
 use Rattle.std.proofs.lemmas.List.{append_assoc, append-nil}
 use Rattle.std.proofs.lemmas.List.Sums.{sum_by-cons}
 use Rattle.ct_algebra.specs.Actions.{Action, Shift, Derive, Still}
-use Rattle.ct_ore.specs.Naming.{Naming, has_operator, is_summed, IsNaming, EachIsNaming, IsOtherText, TextsDiffer, IsAlgebra}
+use Rattle.ct_ore.specs.Naming.{Naming, is_summed, IsNaming, EachIsNaming, IsOtherText, TextsDiffer, IsAlgebra}
 use Rattle.ct_ore.specs.declared.algebra.Role.{Role}
 use Rattle.ct_ore.specs.declared.algebra.Role.TheVariants as role
 use Rattle.ct_problem.specs.Declarations.{declared as no_lets}
@@ -17,26 +17,10 @@ use Rattle.ct_problem.proofs.NewNames.{IsSpelled, IsNew, is_new_gives, words_bef
 
 -- ---- counts
 
-pub operators-more : (ns : List Naming) (n : Naming) → count_by has_operator (ns ++ n ∷ []) ≡ count_by has_operator ns + cond (has_operator n) 1 0
-operators-more [] n = let e = sum_by-cons (λ m. cond (has_operator m) 1 0) n [] in omega (arith, e)
-operators-more (m ∷ ns) n =
-    let rest = operators-more ns n in
-    let left = sum_by-cons (λ m. cond (has_operator m) 1 0) m (ns ++ n ∷ []) in
-    let right = sum_by-cons (λ m. cond (has_operator m) 1 0) m ns in
-    omega (arith, rest, left, right)
-
 pub with_text-length : (r : Role) (text : List ℕ) (texts : List (List ℕ)) → length (with_text r text texts) ≡ cond (is_summed r) 1 0 + length texts
 with_text-length role.Free text texts = omega arith
 with_text-length role.Summed text texts = omega arith
 with_text-length role.Param text texts = omega arith
-
-pub summed-more : (ns : List Naming) (n : Naming) → length (summed_texts (ns ++ n ∷ [])) ≡ length (summed_texts ns) + cond (is_summed n.role) 1 0
-summed-more [] n = let e = with_text-length n.role n.text [] in omega (arith, e)
-summed-more (m ∷ ns) n =
-    let rest = summed-more ns n in
-    let left = with_text-length m.role m.text (summed_texts (ns ++ n ∷ [])) in
-    let right = with_text-length m.role m.text (summed_texts ns) in
-    omega (arith, rest, left, right)
 
 -- as many texts as summed names
 pub summed_count : (ns : List Naming) → length (summed_texts ns) ≡ count_by (λ n. is_summed n.role) ns

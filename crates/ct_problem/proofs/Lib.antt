@@ -9,6 +9,7 @@ pub mod Definitions
 pub mod GivenDens
 pub mod NewNames
 pub mod AlgebraNames
+pub mod NameRooms
 pub mod SummedNames
 pub mod ExpressionKinds
 pub mod EvaluableExpressions

@@ -1,27 +1,25 @@
 -- What is read as the lines of names is spelled so. Main lemma `Goes-declarations`.
-use Rattle.std.proofs.Common.{◌≡◌, ℕ, zero, suc, ◌+◌, ◌≤◌, ◌||◌, Bool, true, false, not, cond, List, [], ◌∷◌, ◌++◌, length, nat_lt, Option, Some, None, Ok, refl, sym, ap, ◌∙◌, subst, codes, arith, ltb-false}
-use Rattle.std.specs.List.{count_by}
+use Rattle.std.proofs.Common.{◌≡◌, ℕ, zero, suc, ◌≤◌, Bool, true, false, not, cond, List, [], ◌∷◌, ◌++◌, length, nat_lt, Option, Some, None, Ok, refl, sym, ap, ◌∙◌, subst, codes, arith, ltb-false}
 use Rattle.std.proofs.lemmas.Bool.{false≢true}
-use Rattle.std.proofs.lemmas.List.{append_assoc, append-nil}
 use Rattle.ct_token.specs.declared.token.Symbol.{Symbol}
 use Rattle.ct_token.specs.declared.token.Symbol.TheVariants as symbol
-use Rattle.ct_algebra.specs.Actions.{Action, Shift, Derive, Still, by_action}
-use Rattle.ct_ore.specs.Naming.{Naming, has_operator, is_summed}
-use Rattle.ct_ore.specs.declared.algebra.Role.{Role}
+use Rattle.ct_algebra.specs.Actions.{Action, Shift, Derive, Still}
+use Rattle.ct_ore.specs.Naming.{Naming}
 use Rattle.ct_problem.specs.declared.fault.BadKind.TheVariants.{TooMany, Syntax, NameTooLong, DuplicateName}
 use Rattle.ct_problem.specs.declared.reading.declarations.NameLine.{NameLine}
 use Rattle.ct_problem.specs.declared.reading.declarations.NameLine.TheVariants.{Free, Sum, Int, Param}
 use Rattle.ct_problem.specs.Input.{Input, Outcome, Parser, ◌>>=◌, ◌>>◌, and_then, pure, peek, skip, next, eat_word, expect_word, line_end, spelling, sees_word}
 use Rattle.ct_problem.specs.Input as input
-use Rattle.ct_problem.specs.Declarations.{name_line, spelled_word, new_name, free_action, action_of_line, role_of_line, is_full, acts_fully, sums_fully, declared, declaration, declarations_by, full_by, declarations_from, some_names, declarations}
-use Rattle.ct_problem.specs.Names.{Names, is_new, summed_texts}
+use Rattle.ct_problem.specs.Declarations.{name_line, spelled_word, new_name, free_action, action_of_line, role_of_line, is_full, declared, declaration, declarations_by, full_by, declarations_from, some_names, declarations}
+use Rattle.ct_problem.specs.Names.{Names, is_new}
 use Rattle.ct_problem.specs.Number.{fault_if}
 use Rattle.ct_problem.specs.Lexemes.{Lexeme, Word, LineEnd, Texts, nothing, one, optional, ◌▸◌}
 use Rattle.ct_problem.specs.GrammarLets as lets
 use Rattle.ct_problem.specs.GrammarLets.{IsDeclarable}
 use Rattle.ct_problem.specs.GrammarProblem as grammar
 use Rattle.ct_problem.specs.GrammarProblem.{AreFew}
-use Rattle.ct_problem.proofs.AlgebraNames.{operators-more, summed-more}
+use Rattle.ct_problem.proofs.AlgebraNames.{summed_count}
+use Rattle.ct_problem.proofs.NameRooms.{HasRoom, Rooms, rooms_fit, room_is}
 use Rattle.ct_problem.proofs.Following.{Follows-past, Follows-then}
 use Rattle.ct_problem.proofs.JoinedTexts.{nothing_joined}
 use Rattle.ct_problem.proofs.LexemeSteps.{shown, after_first, sees_word-shown, shown-symbol}
@@ -105,28 +103,6 @@ Spells-free_action = Spells-bind (optional (Word (codes "shift"))) FreeAction (e
         Continues-bind (λ (_ : Unit {0}). one (Word (codes "diff"))) FreeAction (expect_word (codes "diff")) _ (Spells-expect_word (codes "diff")) (λ _.
         Continues-pure FreeAction Derive (λ ls h. nothing_joined h))
 
--- there is room for a name with this action and role
-record HasRoom (found : List Naming) (action : Action) (r : Role) : Type 0 where
-  operators : by_action action true true false ≡ true → count_by has_operator found ≤ 3
-  summed : is_summed r ≡ true → length (summed_texts found) ≤ 2
-
--- a parameter has no operator
-abbrev Suits : NameLine → Action → Type 0
-Suits Param action = action ≡ Still
-Suits _ action = Unit {0}
-
-neither : (b c : Bool) → (b || c) ≡ false → (b ≡ false) × (c ≡ false)
-neither true c h = absurd (false≢true (sym h))
-neither false true h = absurd (false≢true (sym h))
-neither false false h = (refl, refl)
-
-room_is : (line : NameLine) (found : List Naming) (action : Action) → Suits line action → is_full line found ≡ false → HasRoom found action (role_of_line line)
-unfolding is_full
-room_is Free found action suits h = record { operators = λ _. ltb-false _ _ h; summed = λ e. absurd (false≢true e) }
-room_is Sum found action suits h = let parts = neither (acts_fully found) (sums_fully found) h in record { operators = λ _. ltb-false _ _ parts.0; summed = λ _. ltb-false _ _ parts.1 }
-room_is Int found action suits h = let parts = neither (acts_fully found) (sums_fully found) h in record { operators = λ _. ltb-false _ _ parts.0; summed = λ _. ltb-false _ _ parts.1 }
-room_is Param found action suits h = record { operators = λ e. absurd (false≢true (sym (ap (λ (a : Action). by_action a true true false) suits) ∙ e)); summed = λ e. absurd (false≢true e) }
-
 -- the line of this name, for which there is room
 record Line (found : List Naming) (n : Naming) (ls : List Lexeme) : Type 0 where
   room : HasRoom found n.action n.role
@@ -136,24 +112,24 @@ module _ (found : List Naming) (text : List ℕ) where
   Head : NameLine → Texts
   Head line = one (Word (key_of line)) ▸ lets.declared (declared found) text
 
-  module _ (line : NameLine) (full : is_full line found ≡ false) where
-    ended : (D : Texts) (action : Action) → Suits line action → ((ls : List Lexeme) → (D ▸ one LineEnd) ls → grammar.name_line found action (role_of_line line) text ls)
+  module _ (line : NameLine) where
+    ended : (D : Texts) (action : Action) → HasRoom found action (role_of_line line) → ((ls : List Lexeme) → (D ▸ one LineEnd) ls → grammar.name_line found action (role_of_line line) text ls)
         → Goes D (line_end >> pure (record { text = text; action = action; role = role_of_line line })) (Line found)
-    ended D action suits h =
+    ended D action room h =
         Goes-bind D (λ (_ : Unit {0}). one LineEnd) (Line found) line_end (λ _. pure (record { text = text; action = action; role = role_of_line line })) Goes-line_end (λ _.
-        Goes-pure (D ▸ one LineEnd) (Line found) (record { text = text; action = action; role = role_of_line line }) (λ ls k. record { room = room_is line found action suits full; spelled = h ls k }))
+        Goes-pure (D ▸ one LineEnd) (Line found) (record { text = text; action = action; role = role_of_line line }) (λ ls k. record { room = room; spelled = h ls k }))
 
   after_text : (line : NameLine) → is_full line found ≡ false → Goes (Head line) (action_of_line line >>= (λ action. line_end >> pure (record { text = text; action = action; role = role_of_line line }))) (Line found)
   unfolding FreeAction Head
   after_text Free full = Goes-then (Head Free) FreeAction (Line found) free_action _ Spells-free_action by
     where
       by : (action : Action) → Goes (Head Free ▸ FreeAction action) (line_end >> pure (record { text = text; action = action; role = role_of_line Free })) (Line found)
-      by Shift = ended Free full (Head Free ▸ FreeAction Shift) Shift tt (λ ls h. h)
-      by Derive = ended Free full (Head Free ▸ FreeAction Derive) Derive tt (λ ls h. h)
-      by Still = ended Free full (Head Free ▸ FreeAction Still) Still tt (λ ls h. absurd h.first.second)
-  after_text Sum full = ended Sum full (Head Sum) Shift tt (λ ls h. h)
-  after_text Int full = ended Int full (Head Int) Derive tt (λ ls h. h)
-  after_text Param full = ended Param full (Head Param) Still refl (λ ls h. h)
+      by Shift = ended Free (Head Free ▸ FreeAction Shift) Shift (room_is found Shift Free refl full) (λ ls h. h)
+      by Derive = ended Free (Head Free ▸ FreeAction Derive) Derive (room_is found Derive Free refl full) (λ ls h. h)
+      by Still = ended Free (Head Free ▸ FreeAction Still) Still (record { operators = λ e. absurd (false≢true e); summed = λ e. absurd (false≢true e) }) (λ ls h. absurd h.first.second)
+  after_text Sum full = ended Sum (Head Sum) Shift (room_is found Shift Sum refl full) (λ ls h. h)
+  after_text Int full = ended Int (Head Int) Derive (room_is found Derive Int refl full) (λ ls h. h)
+  after_text Param full = ended Param (Head Param) Still (room_is found Still Param refl full) (λ ls h. h)
 
 module _ (found : List Naming) where
   after_key : (line : NameLine) → is_full line found ≡ false → Goes (one (Word (key_of line))) (new_name (declared found) >>= (λ text. action_of_line line >>= (λ action. line_end >> pure (record { text = text; action = action; role = role_of_line line })))) (Line found)
@@ -176,28 +152,6 @@ module _ (found : List Naming) where
       }
 
 -- ---- the lines
-
--- there is room for each of these names, after those before it
-abbrev Rooms : List Naming → List Naming → Type 0
-Rooms found [] = Unit {0}
-Rooms found (n ∷ ns) = HasRoom found n.action n.role × Rooms (found ++ n ∷ []) ns
-
--- a count that one more name is added to
-counted : (count limit : ℕ) (more : Bool) → count ≤ suc limit → (more ≡ true → count ≤ limit) → count + cond more 1 0 ≤ suc limit
-counted count limit true most room = let h = room refl in omega (arith, h)
-counted count limit false most room = omega (arith, most)
-
-record AreWithin (ns : List Naming) : Type 0 where
-  operators : count_by has_operator ns ≤ 4
-  summed : length (summed_texts ns) ≤ 3
-
-rooms_fit : (found ns : List Naming) → Rooms found ns → AreWithin found → AreWithin (found ++ ns)
-rooms_fit found [] rooms w = subst AreWithin (sym (append-nil found)) w
-rooms_fit found (n ∷ ns) rooms w =
-    let operators = counted (count_by has_operator found) 3 (has_operator n) w.operators rooms.0.operators in
-    let summed = counted (length (summed_texts found)) 2 (is_summed n.role) w.summed rooms.0.summed in
-    subst AreWithin (append_assoc found (n ∷ []) ns)
-    (rooms_fit (found ++ n ∷ []) ns rooms.1 (record { operators = omega (arith, operators-more found n, operators); summed = omega (arith, summed-more found n, summed) }))
 
 -- the lines of at most so many names, for which there is room
 record Lines (most : ℕ) (found ns : List Naming) (ls : List Lexeme) : Type 0 where
@@ -250,7 +204,8 @@ Goes-declarations = Goes-whole nothing (Lines 6 []) FewNames (declarations_from 
     by (n ∷ ns) = Goes-pure (Lines 6 [] (n ∷ ns)) FewNames (n ∷ ns) (λ ls h.
         let few = h.few in
         let within = rooms_fit [] (n ∷ ns) h.rooms (record { operators = omega arith; summed = omega arith }) in
+        let summed = within.summed in
         record {
-          few = record { some = omega arith; few = omega (arith, few); few_operators = within.operators; few_summed = within.summed };
+          few = record { some = omega arith; few = omega (arith, few); few_operators = within.operators; few_summed = omega (arith, summed_count (n ∷ ns), summed) };
           spelled = h.spelled;
         })

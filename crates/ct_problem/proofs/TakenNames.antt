@@ -1,27 +1,27 @@
 -- Lexemes that stand for the lines of names are read as those names. Main lemma `Takes-declarations`.
-use Rattle.std.proofs.Common.{◌≡◌, ℕ, zero, suc, ◌+◌, ◌<◌, ◌≤◌, ◌||◌, not, nat_lt, Bool, true, false, cond, List, [], ◌∷◌, ◌++◌, length, Option, Some, None, Ok, refl, sym, ap, ◌∙◌, subst, rules, arith, tests, codes}
-use Rattle.std.specs.List.{count_by}
+use Rattle.std.proofs.Common.{◌≡◌, ℕ, zero, suc, ◌<◌, ◌≤◌, not, nat_lt, Bool, true, false, cond, List, [], ◌∷◌, ◌++◌, length, Option, Some, None, Ok, refl, sym, ap, ◌∙◌, subst, arith, codes}
 use Rattle.std.specs.Str.{bytes_eq}
 use Rattle.std.proofs.lemmas.List.{append_assoc, append-nil}
-use Rattle.std.proofs.lemmas.List.Sums.{sum_by-cons}
 use Rattle.ct_token.specs.declared.token.Symbol.{Symbol}
 use Rattle.ct_algebra.specs.Actions.{Action, Shift, Derive, Still}
-use Rattle.ct_ore.specs.Naming.{Naming, has_operator, is_summed}
+use Rattle.ct_ore.specs.Naming.{Naming}
 use Rattle.ct_ore.specs.declared.algebra.Role.{Role}
 use Rattle.ct_ore.specs.declared.algebra.Role.TheVariants as role
 use Rattle.ct_problem.specs.declared.fault.BadKind.TheVariants.{TooMany, NameTooLong, DuplicateName}
 use Rattle.ct_problem.specs.declared.reading.declarations.NameLine.{NameLine}
 use Rattle.ct_problem.specs.declared.reading.declarations.NameLine.TheVariants.{Free, Sum, Int, Param}
 use Rattle.ct_problem.specs.Input.{Input, Outcome, Parser, ◌>>=◌, ◌>>◌, and_then, pure, peek, skip, eat_word, expect_word, line_end, sees_word}
-use Rattle.ct_problem.specs.Declarations.{name_line, spelled_word, new_name, free_action, action_of_line, role_of_line, is_full, acts_fully, sums_fully, declared, declaration, declarations_by, full_by, declarations_from, some_names, declarations}
-use Rattle.ct_problem.specs.Names.{Names, is_new, summed_texts}
+use Rattle.ct_problem.specs.Declarations.{name_line, spelled_word, new_name, free_action, action_of_line, role_of_line, is_full, declared, declaration, declarations_by, full_by, declarations_from, some_names, declarations}
+use Rattle.ct_problem.specs.Names.{Names, is_new}
 use Rattle.ct_problem.specs.Number.{fault_if}
 use Rattle.ct_problem.specs.Lexemes.{Lexeme, Word, LineEnd, Texts, one, ◌▸◌}
 use Rattle.ct_problem.specs.GrammarLets as lets
 use Rattle.ct_problem.specs.GrammarLets.{IsDeclarable}
 use Rattle.ct_problem.specs.GrammarProblem as grammar
 use Rattle.ct_problem.specs.GrammarProblem.{AreFew}
-use Rattle.ct_problem.proofs.AlgebraNames.{operators-more, summed-more, with_text-length}
+use Rattle.std.proofs.lemmas.Bool.{le-ltb}
+use Rattle.ct_problem.proofs.AlgebraNames.{summed_count}
+use Rattle.ct_problem.proofs.NameRooms.{HasRoom, Rooms, few_rooms, room_for}
 use Rattle.ct_problem.proofs.Following.{Follows-same}
 use Rattle.ct_problem.proofs.JoinedTexts.{joined_to_right}
 use Rattle.ct_problem.proofs.LexemeSteps.{shown, shows_word, sees_word-shown}
@@ -56,41 +56,6 @@ no_line bad i a = name_line_by i false false false false (seen (codes "free") (o
     seen : (w : List ℕ) → rank_of w < 1 → sees_word w i ≡ false
     seen w below = sees_word-shown w i ∙ other_word w 1 (shown i) below a.from
 
--- ---- room for a name
-
-operators-front : (xs ys : List Naming) → count_by has_operator xs ≤ count_by has_operator (xs ++ ys)
-operators-front [] ys = omega arith
-operators-front (x ∷ xs) ys =
-    let rest = operators-front xs ys in
-    let left = sum_by-cons (λ m. cond (has_operator m) 1 0) x xs in
-    let right = sum_by-cons (λ m. cond (has_operator m) 1 0) x (xs ++ ys) in
-    omega (arith, rest, left, right)
-
-summed-front : (xs ys : List Naming) → length (summed_texts xs) ≤ length (summed_texts (xs ++ ys))
-summed-front [] ys = omega arith
-summed-front (x ∷ xs) ys =
-    let rest = summed-front xs ys in
-    let left = with_text-length x.role x.text (summed_texts xs) in
-    let right = with_text-length x.role x.text (summed_texts (xs ++ ys)) in
-    omega (arith, rest, left, right)
-
--- these names leave room for one more
-record HasRoom (found : List Naming) (n : Naming) : Type 0 where
-  operators : count_by has_operator found + cond (has_operator n) 1 0 ≤ 4
-  summed : length (summed_texts found) + cond (is_summed n.role) 1 0 ≤ 3
-
-room_is : (found more : List Naming) (n : Naming) → count_by has_operator (found ++ n ∷ more) ≤ 4 → length (summed_texts (found ++ n ∷ more)) ≤ 3 → HasRoom found n
-room_is found more n operators summed =
-    let e : (found ++ n ∷ []) ++ more ≡ found ++ n ∷ more = append_assoc found (n ∷ []) more in
-    let o = operators-front (found ++ n ∷ []) more in
-    let s = summed-front (found ++ n ∷ []) more in
-    let o2 : count_by has_operator (found ++ n ∷ []) ≤ 4 = omega (arith, o, ap (count_by has_operator) e, operators) in
-    let s2 : length (summed_texts (found ++ n ∷ [])) ≤ 3 = omega (arith, s, ap (λ (ns : List Naming). length (summed_texts ns)) e, summed) in
-    record { operators = omega (arith, o2, operators-more found n); summed = omega (arith, s2, summed-more found n) }
-
-below_is : (a b : ℕ) → b ≤ a → nat_lt a b ≡ false
-below_is a b h = first_of (search (rules, tests), grind (arith, tests))
-
 module _ (bad : Option ℕ) where
   -- ---- the name that is declared
 
@@ -101,7 +66,7 @@ module _ (bad : Option ℕ) where
   unfolding new_name
   Takes-new_name names text i used rest here e u after =
       let head = headed bad i used rest (Word text) e u.1 in
-      let t = Takes-fault_if bad text (one (Word text)) anywhere (nat_lt 32 (length text)) NameTooLong (old_by text) (below_is 32 (length text) u.0.short)
+      let t = Takes-fault_if bad text (one (Word text)) anywhere (nat_lt 32 (length text)) NameTooLong (old_by text) (le-ltb 32 (length text) u.0.short)
       (Takes-fault_if bad text (one (Word text)) anywhere (not (is_new text names)) DuplicateName (skip >> pure text) (ap not u.0.other)
       (Takes-last bad tt text (one (Word text)) anywhere skip (λ _. pure text) (Takes-skip bad (Word text) refl) (λ k. refl))) i used rest here e u.1 tt in
       record { left = t.left; reads = ap (λ o. and_then o (λ v. fault_if (nat_lt 32 (length v)) NameTooLong >> old_by v)) (name_read i rest text head) ∙ t.reads; shows = t.shows; follows = t.follows }
@@ -171,80 +136,52 @@ module _ (bad : Option ℕ) where
         let k = joined_to_right h in
         (k.back ++ rest, e ∙ ap (λ ls. ls ++ rest) (k.parts ∙ ap (λ xs. xs ++ k.back) k.first))
 
-    acts_room : (a : Action) (r : Role) → has_operator (record { text = text; action = a; role = r }) ≡ true → HasRoom found (record { text = text; action = a; role = r }) → acts_fully found ≡ false
-    acts_room a r has room =
-        let o = room.operators in
-        let small : count_by has_operator found + cond true 1 0 ≤ 4 = subst (λ (b : Bool). count_by has_operator found + cond b 1 0 ≤ 4) has o in
-        below_is 3 (count_by has_operator found) (omega (arith, small))
-
-    sums_room : (a : Action) → HasRoom found (record { text = text; action = a; role = role.Summed }) → sums_fully found ≡ false
-    sums_room a room = let s = room.summed in below_is 2 (length (summed_texts found)) (omega (arith, s))
-
-    both_false : (b c : Bool) → b ≡ false → c ≡ false → (b || c) ≡ false
-    both_false b c e f = ap (λ (x : Bool). x || c) e ∙ f
-
-    free_room : (a : Action) → has_operator (record { text = text; action = a; role = role.Free }) ≡ true → HasRoom found (record { text = text; action = a; role = role.Free }) → is_full Free found ≡ false
-    unfolding is_full
-    free_room a has room = acts_room a role.Free has room
-
-    sum_room : HasRoom found (record { text = text; action = Shift; role = role.Summed }) → is_full Sum found ≡ false
-    unfolding is_full
-    sum_room room = both_false (acts_fully found) (sums_fully found) (acts_room Shift role.Summed refl room) (sums_room Shift room)
-
-    int_room : HasRoom found (record { text = text; action = Derive; role = role.Summed }) → is_full Int found ≡ false
-    unfolding is_full
-    int_room room = both_false (acts_fully found) (sums_fully found) (acts_room Derive role.Summed refl room) (sums_room Derive room)
-
-    param_room : is_full Param found ≡ false
-    unfolding is_full
-    param_room = refl
-
-    take_line : (action : Action) (r : Role) (i : Input) (used rest : List Lexeme) → i.bad ≡ bad → shown i ≡ used ++ rest → HasRoom found (record { text = text; action = action; role = r }) → grammar.name_line found action r text used → IsFresh bad rest
+    take_line : (action : Action) (r : Role) (i : Input) (used rest : List Lexeme) → i.bad ≡ bad → shown i ≡ used ++ rest → HasRoom found action r → grammar.name_line found action r text used → IsFresh bad rest
         → TakenLine found i (record { text = text; action = action; role = r }) rest
     take_line Shift role.Free i used rest here e room h after =
         let w = word_of_four (codes "free") _ _ _ i used rest e h in
-        record { line = Free; begins = line_with (codes "free") i w.0 w.1; taken = free_line (codes "shift") Shift (free_room Shift refl room) Takes-shift i used rest here e h after }
+        record { line = Free; begins = line_with (codes "free") i w.0 w.1; taken = free_line (codes "shift") Shift (room_for found Shift Free refl room) Takes-shift i used rest here e h after }
     take_line Derive role.Free i used rest here e room h after =
         let w = word_of_four (codes "free") _ _ _ i used rest e h in
-        record { line = Free; begins = line_with (codes "free") i w.0 w.1; taken = free_line (codes "diff") Derive (free_room Derive refl room) Takes-diff i used rest here e h after }
+        record { line = Free; begins = line_with (codes "free") i w.0 w.1; taken = free_line (codes "diff") Derive (room_for found Derive Free refl room) Takes-diff i used rest here e h after }
     take_line Still role.Free i used rest here e room h after = absurd h
     take_line Shift role.Summed i used rest here e room h after =
         let w = word_of_three (codes "sum") _ _ i used rest e h in
-        record { line = Sum; begins = line_with (codes "sum") i w.0 w.1; taken = short_line Sum (codes "sum") (record { text = text; action = Shift; role = role.Summed }) (sum_room room) (Takes-end (record { text = text; action = Shift; role = role.Summed })) i used rest here e h after }
+        record { line = Sum; begins = line_with (codes "sum") i w.0 w.1; taken = short_line Sum (codes "sum") (record { text = text; action = Shift; role = role.Summed }) (room_for found Shift Sum refl room) (Takes-end (record { text = text; action = Shift; role = role.Summed })) i used rest here e h after }
     take_line Derive role.Summed i used rest here e room h after =
         let w = word_of_three (codes "int") _ _ i used rest e h in
-        record { line = Int; begins = line_with (codes "int") i w.0 w.1; taken = short_line Int (codes "int") (record { text = text; action = Derive; role = role.Summed }) (int_room room) (Takes-end (record { text = text; action = Derive; role = role.Summed })) i used rest here e h after }
+        record { line = Int; begins = line_with (codes "int") i w.0 w.1; taken = short_line Int (codes "int") (record { text = text; action = Derive; role = role.Summed }) (room_for found Derive Int refl room) (Takes-end (record { text = text; action = Derive; role = role.Summed })) i used rest here e h after }
     take_line Still role.Summed i used rest here e room h after = absurd h
     take_line Shift role.Param i used rest here e room h after = absurd h
     take_line Derive role.Param i used rest here e room h after = absurd h
     take_line Still role.Param i used rest here e room h after =
         let w = word_of_three (codes "param") _ _ i used rest e h in
-        record { line = Param; begins = line_with (codes "param") i w.0 w.1; taken = short_line Param (codes "param") (record { text = text; action = Still; role = role.Param }) param_room (Takes-end (record { text = text; action = Still; role = role.Param })) i used rest here e h after }
+        record { line = Param; begins = line_with (codes "param") i w.0 w.1; taken = short_line Param (codes "param") (record { text = text; action = Still; role = role.Param }) (room_for found Still Param refl room) (Takes-end (record { text = text; action = Still; role = role.Param })) i used rest here e h after }
 
   -- ---- the lines
 
   abbrev more_by : ℕ → List Naming → NameLine → Parser (List Naming)
   more_by n found line = declaration line found >>= (λ naming. declarations_from n (found ++ naming ∷ []))
 
-  Takes-lines : (more found : List Naming) (n : ℕ) → length more ≤ n → count_by has_operator (found ++ more) ≤ 4 → length (summed_texts (found ++ more)) ≤ 3
+  Takes-lines : (more found : List Naming) (n : ℕ) → length more ≤ n → Rooms found more
       → Takes bad (declarations_from n found) (found ++ more) (grammar.name_lines found more) (AfterLines bad 1)
   unfolding declarations_from
-  Takes-lines [] found zero enough operators summed i used rest here e u after =
+  Takes-lines [] found zero enough rooms i used rest here e u after =
       let here_shown : shown i ≡ rest = e ∙ ap (λ ls. ls ++ rest) u in
       let none = no_line bad i (subst (AfterLines bad 1) (sym here_shown) after) in
       subst (λ (ns : List Naming). Taken (declarations_from zero found) i ns rest) (sym (append-nil found))
       (record { left = i; reads = ap (λ (o : Option NameLine). full_by found o i) none; shows = here_shown; follows = Follows-same i })
-  Takes-lines [] found (suc n) enough operators summed i used rest here e u after =
+  Takes-lines [] found (suc n) enough rooms i used rest here e u after =
       let here_shown : shown i ≡ rest = e ∙ ap (λ ls. ls ++ rest) u in
       let none = no_line bad i (subst (AfterLines bad 1) (sym here_shown) after) in
       subst (λ (ns : List Naming). Taken (declarations_from (suc n) found) i ns rest) (sym (append-nil found))
       (record { left = i; reads = ap (λ (o : Option NameLine). declarations_by (more_by n found) found o i) none; shows = here_shown; follows = Follows-same i })
-  Takes-lines (m ∷ more) found zero enough operators summed i used rest here e h after = let no : ⊥ = omega (arith, enough) in absurd no
-  Takes-lines (m ∷ more) found (suc n) enough operators summed i used rest here e h after =
+  Takes-lines (m ∷ more) found zero enough rooms i used rest here e h after = let no : ⊥ = omega (arith, enough) in absurd no
+  Takes-lines (m ∷ more) found (suc n) enough rooms i used rest here e h after =
       let split : shown i ≡ h.front ++ (h.back ++ rest) = e ∙ ap (λ ls. ls ++ rest) h.parts ∙ append_assoc h.front h.back rest in
       let again : (found ++ m ∷ []) ++ more ≡ found ++ m ∷ more = append_assoc found (m ∷ []) more in
-      let l = take_line found m.text m.action m.role i h.front (h.back ++ rest) here split (room_is found more m operators summed) h.first (fresh_before bad h.back rest after.fresh) in
-      let s = Takes-lines more (found ++ m ∷ []) n (omega (arith, enough)) (subst (λ (ns : List Naming). count_by has_operator ns ≤ 4) (sym again) operators) (subst (λ (ns : List Naming). length (summed_texts ns) ≤ 3) (sym again) summed)
+      let l = take_line found m.text m.action m.role i h.front (h.back ++ rest) here split rooms.0 h.first (fresh_before bad h.back rest after.fresh) in
+      let s = Takes-lines more (found ++ m ∷ []) n (omega (arith, enough)) rooms.1
       l.taken.left h.back rest (l.taken.follows.same_bad ∙ here) l.taken.shows h.second after in
       let all = Taken-bind bad (declaration l.line found) (λ naming. declarations_from n (found ++ naming ∷ [])) i m ((found ++ m ∷ []) ++ more) (h.back ++ rest) rest l.taken s in
       subst (λ (ns : List Naming). Taken (declarations_from (suc n) found) i ns rest) again
@@ -256,4 +193,6 @@ module _ (bad : Option ℕ) where
 
   pub Takes-declarations : (ns : List Naming) → AreFew ns → Takes bad declarations ns (grammar.name_lines [] ns) (AfterLines bad 1)
   unfolding declarations
-  Takes-declarations ns few = Takes-last bad ns ns (grammar.name_lines [] ns) (AfterLines bad 1) (declarations_from 6 []) some_names (Takes-lines ns [] 6 few.few few.few_operators few.few_summed) (some_read ns few.some)
+  Takes-declarations ns few =
+      let summed = few.few_summed in
+      Takes-last bad ns ns (grammar.name_lines [] ns) (AfterLines bad 1) (declarations_from 6 []) some_names (Takes-lines ns [] 6 few.few (few_rooms [] ns (record { operators = few.few_operators; summed = omega (arith, summed_count ns, summed) }))) (some_read ns few.some)

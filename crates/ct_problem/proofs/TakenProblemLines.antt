@@ -1,6 +1,7 @@
 -- Lexemes that stand for `gen` and `use` lines, and for ranges, are read as what they stand for.
-use Rattle.std.proofs.Common.{◌≡◌, ℕ, ◌<◌, ◌≤◌, Bool, true, false, cond, nat_lt, List, [], ◌∷◌, ◌++◌, Option, Some, None, refl, rules, arith, tests}
+use Rattle.std.proofs.Common.{◌≡◌, ℕ, ◌<◌, ◌≤◌, Bool, true, false, cond, nat_lt, List, [], ◌∷◌, ◌++◌, Option, Some, None, refl, arith}
 use Rattle.ct_mono.specs.Limits.{largest_norm}
+use Rattle.std.proofs.lemmas.Bool.{le-ltb}
 use Rattle.ct_problem.specs.declared.fault.BadKind.TheVariants.{OutOfRange, EmptyRange}
 use Rattle.ct_problem.specs.declared.problem.Range.{Range}
 use Rattle.ct_problem.specs.Input.{Parser, ◌>>=◌, ◌>>◌, pure, skip, eat_word, line_end, dots}
@@ -17,16 +18,13 @@ use Rattle.ct_problem.proofs.Taking.{Takes, anywhere, Takes-as, Takes-bind, Take
 use Rattle.ct_problem.proofs.TakenSteps.{IsFresh, Takes-line_end, Takes-dots, Takes-number, Takes-coming}
 use Rattle.ct_problem.proofs.TakenValues.{Takes-past}
 
-below_is : (a b : ℕ) → b ≤ a → nat_lt a b ≡ false
-below_is a b h = first_of (search (rules, tests), grind (arith, tests))
-
 module _ (bad : Option ℕ) where
   Takes-high : (limit low n : ℕ) → limit ≤ largest_norm → low ≤ n → n ≤ limit → Takes bad (high_number limit low) n (one (Number n)) anywhere
   unfolding high_number
   Takes-high limit low n most rising within =
       Takes-coming bad n n anywhere (λ m. fault_if (nat_lt limit m) OutOfRange >> (fault_if (nat_lt m low) EmptyRange >> (skip >> pure m))) (omega (arith, most, within))
-      (Takes-fault_if bad n (one (Number n)) anywhere (nat_lt limit n) OutOfRange (fault_if (nat_lt n low) EmptyRange >> (skip >> pure n)) (below_is limit n within)
-      (Takes-fault_if bad n (one (Number n)) anywhere (nat_lt n low) EmptyRange (skip >> pure n) (below_is n low rising)
+      (Takes-fault_if bad n (one (Number n)) anywhere (nat_lt limit n) OutOfRange (fault_if (nat_lt n low) EmptyRange >> (skip >> pure n)) (le-ltb limit n within)
+      (Takes-fault_if bad n (one (Number n)) anywhere (nat_lt n low) EmptyRange (skip >> pure n) (le-ltb n low rising)
       (Takes-last bad tt n (one (Number n)) anywhere skip (λ _. pure n) (Takes-skip bad (Number n) refl) (λ k. refl))))
 
   Takes-range : (limit : ℕ) (r : Range) → limit ≤ largest_norm → Takes bad (range limit) r (grammar.range limit r) anywhere
