@@ -15,8 +15,6 @@ pub mod ExpressionKinds
 pub mod EvaluableExpressions
 pub mod SummedActions
 pub mod WellFormedLines
-pub mod WellFormedLets
-pub mod WellFormedDens
 pub mod WellFormedProblems
 pub mod WellFormedReports
 pub mod LexemeSteps
@@ -58,7 +56,6 @@ pub mod TakenNames
 pub mod TakenLets
 pub mod TakenProblemLines
 pub mod TakenDens
-pub mod TakenGenerators
 pub mod TakenBodies
 pub mod TakenEnds
 pub mod TakenProblems

@@ -17,11 +17,10 @@ use Rattle.ct_problem.specs.ReadProblem.{Reading, head, body}
 use Rattle.ct_problem.proofs.LineStarts.{AfterLines, Leads, fresh_before, leads_join}
 use Rattle.ct_problem.proofs.LineStarts as starts
 use Rattle.ct_problem.proofs.TakenDens.{Takes-den_lines, leads_dens}
-use Rattle.ct_problem.proofs.TakenGenerators.{Takes-generators, leads_generators}
+use Rattle.ct_problem.proofs.TakenProblemLines.{Takes-generators, leads_generators, Takes-range_line, leads_range}
 use Rattle.ct_problem.proofs.TakenLets.{Takes-let_lines, leads_lets}
 use Rattle.ct_problem.proofs.TakenLines.{Takes-header}
 use Rattle.ct_problem.proofs.TakenNames.{Takes-declarations}
-use Rattle.ct_problem.proofs.TakenProblemLines.{Takes-range_line, leads_range}
 use Rattle.ct_problem.proofs.TakenSteps.{IsFresh, Takes-fresh_line}
 use Rattle.ct_problem.proofs.TakenValues.{Takes-values, leads_values}
 use Rattle.ct_problem.proofs.Taking.{Takes, Takes-as, Takes-to_right, Takes-bind, Takes-last}

@@ -24,9 +24,7 @@ use Rattle.ct_problem.proofs.AlgebraNames.{names_are}
 use Rattle.ct_problem.proofs.Definitions.{length-definitions_of, forms_of}
 use Rattle.ct_problem.proofs.NewNames.{IsSpelled, words_are, words_before, words_behind}
 use Rattle.ct_problem.proofs.SpelledTexts.{problem_is, problem_spelled}
-use Rattle.ct_problem.proofs.WellFormedDens.{dens_are}
-use Rattle.ct_problem.proofs.WellFormedLets.{list_within, lets_are}
-use Rattle.ct_problem.proofs.WellFormedLines.{operators_of}
+use Rattle.ct_problem.proofs.WellFormedLines.{dens_are, list_within, lets_are, operators_of}
 
 generators_are : (names : Names) → length names.variables ≤ 6 → (g : Gens) (ls : List Lexeme) → grammar.generators names g ls → IsGens names.variables (length names.lets) g
 generators_are names few (Listed xs) ls h = operators_of names few (codes "gen") xs ls h
