@@ -3,70 +3,24 @@
 use Rattle.std.proofs.Common.{◌≡◌, ◌≢◌, ℕ, zero, suc, ◌<◌, ◌≤◌, Bool, true, false, List, [], ◌∷◌, map, IsTrue, pos, nat_lt, slice_get, refl, sym, ap, ◌∙◌, arith}
 use Rattle.std.proofs.lemmas.Bool.{false≢true, le-leb}
 use Rattle.ct_mono.specs.Limits.{largest_norm}
-use Rattle.ct_expr.specs.declared.expr.Expr.{Expr}
+use Rattle.ct_expr.specs.declared.expr.Expr.{Expr, roll-Expr}
 use Rattle.ct_expr.specs.declared.expr.Expr.TheVariants as e
-use Rattle.ct_expr.specs.declared.expr.Expr.TheFolds.{fold-roll-Expr, fold-roll-Summand}
+use Rattle.ct_expr.specs.declared.expr.Expr.TheOpen.{Expr-F}
+use Rattle.ct_expr.specs.declared.expr.Expr.TheFolds.{fold-Expr, fold-Summand, map-Expr, fold-roll-Expr, fold-roll-Summand}
 use Rattle.ct_expr.specs.declared.expr.Summand.{Summand}
 use Rattle.ct_ore.specs.Naming.{Naming}
 use Rattle.ct_problem.specs.Grammar.{product_of, summand}
 use Rattle.ct_problem.specs.OverNames.{is_over, is_over_term, over_step, is_listed, has_symbol, some_all_true}
-use Rattle.ct_expr.specs.Value.{is_evaluable, is_evaluable_term, has_no_symbol, has_no_symbol_term, no_symbol_step, all_true}
+use Rattle.ct_expr.specs.Value.{is_evaluable, is_evaluable_term, has_no_symbol, has_no_symbol_term, no_symbol_step, term_step, all_true}
 use Rattle.ct_problem.specs.WellFormed.{Each}
 use Rattle.ct_expr.proofs.Values.{evaluable-Whole, evaluable-Ratio, evaluable-Name, evaluable-Symbol, evaluable-Sum, evaluable-Product, evaluable-Power}
 
-no_symbol-Whole : (n : ℕ) → has_no_symbol (e.Whole (pos n)) ≡ true
-unfolding has_no_symbol no_symbol_step
-no_symbol-Whole n = ap has_no_symbol (sym (e.rolls-Whole (pos n))) ∙ fold-roll-Expr _ _ _ _ _
-
-no_symbol-Ratio : (n d : ℕ) → has_no_symbol (e.Ratio (pos n) (pos d)) ≡ true
-unfolding has_no_symbol no_symbol_step
-no_symbol-Ratio n d = ap has_no_symbol (sym (e.rolls-Ratio (pos n) (pos d))) ∙ fold-roll-Expr _ _ _ _ _
-
-no_symbol-Name : (i : ℕ) → has_no_symbol (e.Name i) ≡ true
-unfolding has_no_symbol no_symbol_step
-no_symbol-Name i = ap has_no_symbol (sym (e.rolls-Name i)) ∙ fold-roll-Expr _ _ _ _ _
-
-no_symbol-Sum : (terms : List Summand) → has_no_symbol (e.Sum terms) ≡ all_true (map has_no_symbol_term terms)
-unfolding has_no_symbol has_no_symbol_term no_symbol_step
-no_symbol-Sum terms = ap has_no_symbol (sym (e.rolls-Sum terms)) ∙ fold-roll-Expr _ _ _ _ _
-
-no_symbol-Product : (factors : List Expr) → has_no_symbol (e.Product factors) ≡ all_true (map has_no_symbol factors)
-unfolding has_no_symbol no_symbol_step
-no_symbol-Product factors = ap has_no_symbol (sym (e.rolls-Product factors)) ∙ fold-roll-Expr _ _ _ _ _
-
-no_symbol-Power : (base : Expr) (n : ℕ) → has_no_symbol (e.Power base n) ≡ has_no_symbol base
-unfolding has_no_symbol no_symbol_step
-no_symbol-Power base n = ap has_no_symbol (sym (e.rolls-Power base n)) ∙ fold-roll-Expr _ _ _ _ _
+-- what a step gives at an expression
+stepped : (step : Expr-F Bool Bool → Bool) (x : Expr-F Expr Summand) (y : Expr) → roll-Expr x ≡ y
+    → fold-Expr Bool Bool step term_step y ≡ step (map-Expr _ _ _ _ (fold-Expr Bool Bool step term_step) (fold-Summand Bool Bool step term_step) x)
+stepped step x y e = ap (fold-Expr Bool Bool step term_step) (sym e) ∙ fold-roll-Expr _ _ _ _ _
 
 module _ (ns : List Naming) where
-  over-Whole : (n : ℕ) → is_over ns (e.Whole (pos n)) ≡ true
-  unfolding is_over over_step
-  over-Whole n = ap (is_over ns) (sym (e.rolls-Whole (pos n))) ∙ fold-roll-Expr _ _ _ _ _
-
-  over-Ratio : (n d : ℕ) → is_over ns (e.Ratio (pos n) (pos d)) ≡ true
-  unfolding is_over over_step
-  over-Ratio n d = ap (is_over ns) (sym (e.rolls-Ratio (pos n) (pos d))) ∙ fold-roll-Expr _ _ _ _ _
-
-  over-Name : (i : ℕ) → is_over ns (e.Name i) ≡ is_listed (slice_get ns i)
-  unfolding is_over over_step
-  over-Name i = ap (is_over ns) (sym (e.rolls-Name i)) ∙ fold-roll-Expr _ _ _ _ _
-
-  over-Symbol : (i : ℕ) → is_over ns (e.Symbol i) ≡ has_symbol (slice_get ns i)
-  unfolding is_over over_step
-  over-Symbol i = ap (is_over ns) (sym (e.rolls-Symbol i)) ∙ fold-roll-Expr _ _ _ _ _
-
-  over-Sum : (terms : List Summand) → is_over ns (e.Sum terms) ≡ some_all_true (map (is_over_term ns) terms)
-  unfolding is_over is_over_term over_step
-  over-Sum terms = ap (is_over ns) (sym (e.rolls-Sum terms)) ∙ fold-roll-Expr _ _ _ _ _
-
-  over-Product : (factors : List Expr) → is_over ns (e.Product factors) ≡ some_all_true (map (is_over ns) factors)
-  unfolding is_over over_step
-  over-Product factors = ap (is_over ns) (sym (e.rolls-Product factors)) ∙ fold-roll-Expr _ _ _ _ _
-
-  over-Power : (base : Expr) (n : ℕ) → is_over ns (e.Power base n) ≡ is_over ns base
-  unfolding is_over over_step
-  over-Power base n = ap (is_over ns) (sym (e.rolls-Power base n)) ∙ fold-roll-Expr _ _ _ _ _
-
   over-summand : (negative : Bool) (x : Expr) → is_over_term ns (summand negative x) ≡ is_over ns x
   unfolding is_over is_over_term
   over-summand negative x = fold-roll-Summand _ _ _ _ _
@@ -109,33 +63,37 @@ not_zero (suc d) other = le-leb 1 (suc d) (omega arith)
 
 module _ (ns : List Naming) where
   pub symbol_is : (at : ℕ) → at < 6 → IsTrue (has_symbol (slice_get ns at)) → IsFor ns true (e.Symbol at)
+  unfolding is_over is_over_term over_step has_no_symbol has_no_symbol_term no_symbol_step
   symbol_is at below acts = record {
     evaluable = rw (evaluable-Symbol at) (small at below);
-    over = rw (over-Symbol ns at) acts;
+    over = stepped (over_step ns) _ _ (e.rolls-Symbol at) ∙ acts;
     plain = λ no. absurd (false≢true (sym no));
   }
 
   module _ (operators : Bool) where
     pub name_is : (at : ℕ) → at < 6 → IsTrue (is_listed (slice_get ns at)) → IsFor ns operators (e.Name at)
+    unfolding is_over is_over_term over_step has_no_symbol has_no_symbol_term no_symbol_step
     name_is at below listed = record {
       evaluable = rw (evaluable-Name at) (small at below);
-      over = rw (over-Name ns at) listed;
-      plain = λ _. no_symbol-Name at;
+      over = stepped (over_step ns) _ _ (e.rolls-Name at) ∙ listed;
+      plain = λ _. stepped no_symbol_step _ _ (e.rolls-Name at);
     }
 
     pub whole_is : (n : ℕ) → n ≤ largest_norm → IsFor ns operators (e.Whole (pos n))
+    unfolding is_over is_over_term over_step has_no_symbol has_no_symbol_term no_symbol_step
     whole_is n within = record {
       evaluable = rw (evaluable-Whole (pos n)) (le-leb n largest_norm within);
-      over = over-Whole ns n;
-      plain = λ _. no_symbol-Whole n;
+      over = stepped (over_step ns) _ _ (e.rolls-Whole (pos n));
+      plain = λ _. stepped no_symbol_step _ _ (e.rolls-Whole (pos n));
     }
 
     -- a quotient of two numbers, the second of which isn't 0
     pub ratio_is : (n d : ℕ) → n ≤ largest_norm → d ≤ largest_norm → d ≢ 0 → IsFor ns operators (e.Ratio (pos n) (pos d))
+    unfolding is_over is_over_term over_step has_no_symbol has_no_symbol_term no_symbol_step
     ratio_is n d n_within d_within some = record {
       evaluable = rw (evaluable-Ratio (pos n) (pos d), le-leb n largest_norm n_within, le-leb d largest_norm d_within, not_zero d some) refl;
-      over = over-Ratio ns n d;
-      plain = λ _. no_symbol-Ratio n d;
+      over = stepped (over_step ns) _ _ (e.rolls-Ratio (pos n) (pos d));
+      plain = λ _. stepped no_symbol_step _ _ (e.rolls-Ratio (pos n) (pos d));
     }
 
     pub summand_is : (negative : Bool) (x : Expr) → IsFor ns operators x → IsTermFor ns operators (summand negative x)
@@ -146,17 +104,19 @@ module _ (ns : List Naming) where
     }
 
     pub sum_is : (t : Summand) (ts : List Summand) → Each (IsTermFor ns operators) (t ∷ ts) → IsFor ns operators (e.Sum (t ∷ ts))
+    unfolding is_over is_over_term over_step has_no_symbol has_no_symbol_term no_symbol_step
     sum_is t ts each = record {
       evaluable = rw (evaluable-Sum (t ∷ ts)) (all_true-of is_evaluable_term (IsTermFor ns operators) (t ∷ ts) (λ t h. h.evaluable) each);
-      over = rw (over-Sum ns (t ∷ ts)) (some_all_true-of (is_over_term ns) (IsTermFor ns operators) t ts (λ t h. h.over) each);
-      plain = λ none. rw (no_symbol-Sum (t ∷ ts)) (all_true-of has_no_symbol_term (IsTermFor ns operators) (t ∷ ts) (λ t h. h.plain none) each);
+      over = stepped (over_step ns) _ _ (e.rolls-Sum (t ∷ ts)) ∙ (some_all_true-of (is_over_term ns) (IsTermFor ns operators) t ts (λ t h. h.over) each);
+      plain = λ none. stepped no_symbol_step _ _ (e.rolls-Sum (t ∷ ts)) ∙ (all_true-of has_no_symbol_term (IsTermFor ns operators) (t ∷ ts) (λ t h. h.plain none) each);
     }
 
     product_is : (x : Expr) (xs : List Expr) → Each (IsFor ns operators) (x ∷ xs) → IsFor ns operators (e.Product (x ∷ xs))
+    unfolding is_over is_over_term over_step has_no_symbol has_no_symbol_term no_symbol_step
     product_is x xs each = record {
       evaluable = rw (evaluable-Product (x ∷ xs)) (all_true-of is_evaluable (IsFor ns operators) (x ∷ xs) (λ x h. h.evaluable) each);
-      over = rw (over-Product ns (x ∷ xs)) (some_all_true-of (is_over ns) (IsFor ns operators) x xs (λ x h. h.over) each);
-      plain = λ none. rw (no_symbol-Product (x ∷ xs)) (all_true-of has_no_symbol (IsFor ns operators) (x ∷ xs) (λ x h. h.plain none) each);
+      over = stepped (over_step ns) _ _ (e.rolls-Product (x ∷ xs)) ∙ (some_all_true-of (is_over ns) (IsFor ns operators) x xs (λ x h. h.over) each);
+      plain = λ none. stepped no_symbol_step _ _ (e.rolls-Product (x ∷ xs)) ∙ (all_true-of has_no_symbol (IsFor ns operators) (x ∷ xs) (λ x h. h.plain none) each);
     }
 
     pub product_of-is : (x : Expr) (xs : List Expr) → Each (IsFor ns operators) (x ∷ xs) → IsFor ns operators (product_of (x ∷ xs))
@@ -165,8 +125,9 @@ module _ (ns : List Naming) where
     product_of-is x (y ∷ more) each = product_is x (y ∷ more) each
 
     pub power_is : (base : Expr) (n : ℕ) → IsFor ns operators base → IsFor ns operators (e.Power base n)
+    unfolding is_over is_over_term over_step has_no_symbol has_no_symbol_term no_symbol_step
     power_is base n h = record {
       evaluable = rw (evaluable-Power base n) h.evaluable;
-      over = rw (over-Power ns base n) h.over;
-      plain = λ none. rw (no_symbol-Power base n) (h.plain none);
+      over = stepped (over_step ns) _ _ (e.rolls-Power base n) ∙ h.over;
+      plain = λ none. stepped no_symbol_step _ _ (e.rolls-Power base n) ∙ (h.plain none);
     }

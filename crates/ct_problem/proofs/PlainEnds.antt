@@ -3,9 +3,9 @@ use Rattle.std.proofs.Common.{◌≡◌, ◌≢◌, ℕ, ◌+◌, ◌==◌, Bool
 use Rattle.std.specs.List.{list_all}
 use Rattle.std.proofs.lemmas.Bool.{false≢true}
 use Rattle.std.proofs.lemmas.Grind.{common_steps}
-use Rattle.std.proofs.lemmas.List.{append-nil}
+use Rattle.std.proofs.lemmas.List.{append_assoc, append-nil}
 use Rattle.ct_token.specs.declared.token.Symbol.{Symbol}
-use Rattle.ct_token.specs.declared.token.Symbol.TheVariants.{Word, Number, Sign, Dots, LineEnd}
+use Rattle.ct_token.specs.declared.token.Symbol.TheVariants.{Word}
 use Rattle.ct_token.specs.declared.token.Token.{Token}
 use Rattle.ct_token.specs.Cutting.{Stretch, Gap, Lexeme, AreStretches, IsGap, IsBlank, IsEnding, bytes_of, tokens_at}
 use Rattle.ct_token.specs.Lexical.{scan_of, is_blank, is_printable, is_letter, is_word_byte, is_line_end}
@@ -96,53 +96,35 @@ blanks_have_none (Gap bs ∷ ss) rest at each none = NoFeed-append bs (bytes_of 
     by (inr other) = absurd (false≢true other.0)
 blanks_have_none (Lexeme s bs ∷ ss) rest at each none = cc
 
-spelled_some : (s : Symbol) (bs : List ℕ) → Spells s bs → (c : ℕ) × (cs : List ℕ) × (bs ≡ c ∷ cs)
-spelled_some Word [] h = absurd h
-spelled_some Word (c ∷ cs) h = (c, cs, refl)
-spelled_some Number [] h = absurd h
-spelled_some Number (c ∷ cs) h = (c, cs, refl)
-spelled_some (Sign s) bs h = (s, [], h.0)
-spelled_some Dots bs h = (46, 46 ∷ [], h)
-spelled_some LineEnd bs (inl h) = (10, [], h)
-spelled_some LineEnd bs (inr h) = (13, 10 ∷ [], h)
+-- some bytes come last of which none is a line feed
+record EndsClean (bs : List ℕ) : Type 0 where
+  before : List ℕ
+  byte : ℕ
+  after : List ℕ
+  parts : bs ≡ before ++ byte ∷ after
+  clean : NoFeed (byte ∷ after)
 
--- the bytes of stretches with a token are some
-some_bytes : (fresh : Bool) (ss : List Stretch) (rest : List ℕ) (at : ℕ) (t : Token) (ts : List Token) → AreStretches fresh ss rest → tokens_at at ss ≡ t ∷ ts → (c : ℕ) × (cs : List ℕ) × (bytes_of ss ≡ c ∷ cs)
-some_bytes fresh [] rest at t ts each e = cc
-some_bytes fresh (Gap [] ∷ ss) rest at t ts each e = some_bytes fresh ss rest (at + 0) t ts each.1 e
-some_bytes fresh (Gap (b ∷ bs) ∷ ss) rest at t ts each e = (b, bs ++ bytes_of ss, refl)
-some_bytes fresh (Lexeme s bs ∷ ss) rest at t ts each e = let some = spelled_some s bs each.0.spelled in (some.0, some.1 ++ bytes_of ss, ap (λ (xs : List ℕ). xs ++ bytes_of ss) some.2)
+behind : (xs ys : List ℕ) → EndsClean ys → EndsClean (xs ++ ys)
+behind xs ys e = record { before = xs ++ e.before; byte = e.byte; after = e.after; parts = ap (λ (zs : List ℕ). xs ++ zs) e.parts ∙ sym (append_assoc xs e.before (e.byte ∷ e.after)); clean = e.clean }
 
--- where a line feed comes last, it does in what ends with a token
-later_ends : (xs ys : List ℕ) (c : ℕ) (cs : List ℕ) → ys ≡ c ∷ cs → LastEnds (xs ++ ys) → LastEnds ys
-later_ends xs ys c cs e h = subst LastEnds (sym e) (LastEnds-back xs c cs (subst (λ (zs : List ℕ). LastEnds (xs ++ zs)) e h))
+clean_word : (bs more : List ℕ) → IsWord bs → NoFeed (bs ++ more) → EndsClean (bs ++ more)
+clean_word [] more h clean = absurd h
+clean_word (b ∷ bs) more h clean = record { before = []; byte = b; after = bs ++ more; parts = refl; clean = clean }
 
--- the first of some tokens
-first_token : (front : List Token) (t : Token) → (u : Token) × (us : List Token) × (front ++ t ∷ [] ≡ u ∷ us)
-first_token [] t = (t, [], refl)
-first_token (u ∷ front) t = (u, front ++ t ∷ [], refl)
-
-no_word_last : (fresh : Bool) (ss : List Stretch) (rest : List ℕ) (at : ℕ) (front : List Token) (t : Token) → AreStretches fresh ss rest → tokens_at at ss ≡ front ++ t ∷ [] → t.symbol ≡ Word → LastEnds (bytes_of ss) → ⊥
-no_word_last fresh [] rest at [] t each e word last = cc
-no_word_last fresh [] rest at (u ∷ front) t each e word last = cc
-no_word_last fresh (Gap bs ∷ ss) rest at [] t each e word last =
-    let some = some_bytes fresh ss rest (at + length bs) t [] each.1 e in
-    no_word_last fresh ss rest (at + length bs) [] t each.1 e word (later_ends bs (bytes_of ss) some.0 some.1 some.2 last)
-no_word_last fresh (Gap bs ∷ ss) rest at (u ∷ front) t each e word last =
-    let some = some_bytes fresh ss rest (at + length bs) u (front ++ t ∷ []) each.1 e in
-    no_word_last fresh ss rest (at + length bs) (u ∷ front) t each.1 e word (later_ends bs (bytes_of ss) some.0 some.1 some.2 last)
-no_word_last fresh (Lexeme s bs ∷ ss) rest at [] t each e word last =
+word_last : (fresh : Bool) (ss : List Stretch) (rest : List ℕ) (at : ℕ) (front : List Token) (t : Token) → AreStretches fresh ss rest → tokens_at at ss ≡ front ++ t ∷ [] → t.symbol ≡ Word → EndsClean (bytes_of ss)
+word_last fresh [] rest at [] t each e word = cc
+word_last fresh [] rest at (u ∷ front) t each e word = cc
+word_last fresh (Gap bs ∷ ss) rest at front t each e word = behind bs (bytes_of ss) (word_last fresh ss rest (at + length bs) front t each.1 e word)
+word_last fresh (Lexeme s bs ∷ ss) rest at [] t each e word =
     let first : ◌≡◌ {A = Token} (record { symbol = s; from = at; to = at + length bs }) t = cc in
     let none : tokens_at (at + length bs) ss ≡ [] = cc in
     let is : s ≡ Word = ap (λ (u : Token). u.symbol) first ∙ word in
     let spelled : IsWord bs = subst (λ (r : Symbol). Spells r bs) is each.0.spelled in
-    let behind : AreStretches false ss rest = subst (λ (r : Symbol). AreStretches (is_line_end r) ss rest) is each.1 in
-    none_last (bs ++ bytes_of ss) (NoFeed-append bs (bytes_of ss) (word_has_none bs spelled) (blanks_have_none ss rest (at + length bs) behind none)) last
-no_word_last fresh (Lexeme s bs ∷ ss) rest at (u ∷ front) t each e word last =
+    let later : AreStretches false ss rest = subst (λ (r : Symbol). AreStretches (is_line_end r) ss rest) is each.1 in
+    clean_word bs (bytes_of ss) spelled (NoFeed-append bs (bytes_of ss) (word_has_none bs spelled) (blanks_have_none ss rest (at + length bs) later none))
+word_last fresh (Lexeme s bs ∷ ss) rest at (u ∷ front) t each e word =
     let others : tokens_at (at + length bs) ss ≡ front ++ t ∷ [] = cc in
-    let head = first_token front t in
-    let some = some_bytes (is_line_end s) ss rest (at + length bs) head.0 head.1 each.1 (others ∙ head.2) in
-    no_word_last (is_line_end s) ss rest (at + length bs) front t each.1 others word (later_ends bs (bytes_of ss) some.0 some.1 some.2 last)
+    behind bs (bytes_of ss) (word_last (is_line_end s) ss rest (at + length bs) front t each.1 others word)
 
 -- ---- the text
 
@@ -188,12 +170,14 @@ no_word_is_last bytes from front t plain tokens word =
     let cut = scans_cut_the_text bytes from in
     let none = nothing_behind _ cut.rest (scan_of bytes from).bad cut.ending lexical in
     let whole : drop from bytes ≡ bytes_of cut.stretches = cut.all_bytes ∙ ap (λ (rest : List ℕ). bytes_of cut.stretches ++ rest) none ∙ append-nil (bytes_of cut.stretches) in
-    let found = sym cut.tokens ∙ tokens in
-    let head = first_token front t in
-    let some = some_bytes true cut.stretches cut.rest from head.0 head.1 cut.each (found ∙ head.2) in
     let test = both_pass (nat_le (length (drop from bytes)) 67108864) (ends (after_all (Some Ended) (drop from bytes))) plain in
-    by (plain_last (drop from bytes) Ended (all_ended (after_all (Some Ended) (drop from bytes)) test.1)) whole some.0 some.1 some.2 (no_word_last true cut.stretches cut.rest from front t cut.each found word)
+    let ended = plain_last (drop from bytes) Ended (all_ended (after_all (Some Ended) (drop from bytes)) test.1) in
+    by ended (subst EndsClean (sym whole) (word_last true cut.stretches cut.rest from front t cut.each (sym cut.tokens ∙ tokens) word))
   where
-    by : {xs : List ℕ} → (drop from bytes ≡ []) ⊎ LastEnds (drop from bytes) → drop from bytes ≡ xs → (c : ℕ) (cs : List ℕ) → xs ≡ c ∷ cs → (LastEnds xs → ⊥) → ⊥
-    by (inl none) whole c cs some never = let empty = sym none ∙ whole ∙ some in cc
-    by (inr last) whole c cs some never = never (subst LastEnds whole last)
+    some : (xs : List ℕ) (b : ℕ) (ys : List ℕ) → xs ++ b ∷ ys ≡ [] → ⊥
+    some [] b ys e = cc
+    some (x ∷ xs) b ys e = cc
+
+    by : {xs : List ℕ} → (xs ≡ []) ⊎ LastEnds xs → EndsClean xs → ⊥
+    by (inl none) e = some e.before e.byte e.after (sym e.parts ∙ none)
+    by (inr last) e = none_last (e.byte ∷ e.after) e.clean (LastEnds-back e.before e.byte e.after (subst LastEnds e.parts last))
