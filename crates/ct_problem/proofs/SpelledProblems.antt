@@ -8,7 +8,7 @@ use Rattle.ct_problem.specs.declared.problem.Gens.TheVariants.{Listed, Named}
 use Rattle.ct_problem.specs.declared.problem.Range.{Range}
 use Rattle.ct_problem.specs.Input.{◌>>=◌, ◌>>◌, pure, skip, next, eat_word, line_end, dots, fresh_line}
 use Rattle.ct_problem.specs.Declarations.{declarations}
-use Rattle.ct_problem.specs.DenLines.{Dens, den_lines}
+use Rattle.ct_problem.specs.DenLines.{den_lines}
 use Rattle.ct_problem.specs.GrammarLets as lets
 use Rattle.ct_problem.specs.GrammarProblem as grammar
 use Rattle.ct_problem.specs.GrammarProblem.{AreFew}
@@ -127,13 +127,12 @@ pub record Before (p : Reading) (ls : List Lexeme) : Type 0 where
 pub Goes-body : (h : List Naming × List Definition) → Goes (Head h) (body h.0 h.1) Before
 unfolding body
 Goes-body h =
-    Goes-bind (Head h) G Before (generators names) _ (Goes-generators names) (λ gens.
-    Goes-bind (Head h ▸ G gens) D Before (den_lines names) _ (Goes-den_lines names) (λ dens.
-    Goes-bind (Head h ▸ G gens ▸ D dens) T Before (value_lines names (codes "target")) _ (Goes-value_lines names (codes "target")) (λ targets.
-    Goes-bind (Head h ▸ G gens ▸ D dens ▸ T targets) O Before (range_line (codes "order") 8) _ (Goes-range_line (codes "order") 8) (λ orders.
-    Goes-bind (Head h ▸ G gens ▸ D dens ▸ T targets ▸ O orders) C Before (range_line (codes "degree") 12)
-    (λ degrees. pure (record { variables = h.0; definitions = h.1; generators = gens; dens = dens; targets = targets; orders = orders; degrees = degrees })) (Goes-range_line (codes "degree") 12) (λ degrees.
-    Goes-pure (Head h ▸ G gens ▸ D dens ▸ T targets ▸ O orders ▸ C degrees) Before
+    Goes-bind (Head h) _ Before (generators names) _ (Goes-generators names) (λ gens.
+    Goes-bind _ _ Before (den_lines names) _ (Goes-den_lines names) (λ dens.
+    Goes-bind _ _ Before (value_lines names (codes "target")) _ (Goes-value_lines names (codes "target")) (λ targets.
+    Goes-bind _ _ Before (range_line (codes "order") 8) _ (Goes-range_line (codes "order") 8) (λ orders.
+    Goes-bind _ _ Before (range_line (codes "degree") 12) _ (Goes-range_line (codes "degree") 12) (λ degrees.
+    Goes-pure _ Before
     (record { variables = h.0; definitions = h.1; generators = gens; dens = dens; targets = targets; orders = orders; degrees = degrees }) (λ ls k. record {
       few = k.first.first.first.first.first.few;
       spelled = on_first (λ a1. on_first (λ a2. on_first (λ a3. on_first (λ a4. on_first (λ a5 m. m.spelled))))) k;
@@ -141,18 +140,3 @@ Goes-body h =
   where
     names : Names
     names = with_definitions h.0 h.1
-
-    G : Gens → Texts
-    G = grammar.generators names
-
-    D : Dens → Texts
-    D = grammar.den_lines names
-
-    T : List Expr → Texts
-    T = grammar.values names (codes "target")
-
-    O : Option Range → Texts
-    O = grammar.range_line (codes "order") 8
-
-    C : Option Range → Texts
-    C = grammar.range_line (codes "degree") 12

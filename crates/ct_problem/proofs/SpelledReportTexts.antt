@@ -8,8 +8,6 @@ use Rattle.ct_token.specs.declared.token.Symbol.TheVariants as symbol
 use Rattle.ct_token.specs.declared.token.Token.{Token}
 use Rattle.ct_token.specs.Lexing.{slice}
 use Rattle.ct_ore.specs.Naming.{Naming}
-use Rattle.ct_expr.specs.declared.expr.Expr.{Expr}
-use Rattle.ct_problem.specs.declared.report.Quotient.{Quotient}
 use Rattle.ct_problem.specs.declared.report.Report.{Report}
 use Rattle.ct_problem.specs.Declarations.{declared}
 use Rattle.ct_problem.specs.Input.{Input, Outcome, Parser, ◌>>=◌, ◌>>◌, pure, line_end, expect_word}
@@ -30,7 +28,7 @@ use Rattle.ct_problem.proofs.Spelling.{Spelled, Spells-expect_word}
 use Rattle.ct_problem.proofs.SpelledLines.{Goes-header, Goes-keyed}
 use Rattle.ct_problem.proofs.SpelledRuns.{Goes, goes_on_before}
 use Rattle.ct_problem.proofs.SpelledSteps.{first_read, LineEnded, line_end-gives}
-use Rattle.ct_problem.proofs.SpelledReports.{Place, AreCofactors, Goes-found_line, Goes-quotients, Goes-factors, Goes-cofactors}
+use Rattle.ct_problem.proofs.SpelledReports.{AreCofactors, Goes-found_line, Goes-quotients, Goes-factors, Goes-cofactors}
 use Rattle.ct_problem.proofs.PlainEnds.{plain_is_lexical, no_word_is_last}
 
 -- ---- the lines before the last one
@@ -92,14 +90,14 @@ Lines variables count r =
 Closes-report : (variables : List Naming) (count : ℕ) → 1 + count ≤ largest_norm → Closes nothing (rules.report variables count) (Lines variables count)
 unfolding rules.report Lines
 Closes-report variables count low =
-    Closes-bind nothing (λ (_ : Unit {0}). H) L (read.header (codes "report")) _ (Goes-header (codes "report")) (λ _.
-    Closes-bind (nothing ▸ H) Place L rules.found_line _ Goes-found_line (λ place.
-    Closes-bind (nothing ▸ H ▸ Place place) T L (rules.keyed names (codes "telescoper") true) _ (Goes-keyed names (codes "telescoper") true) (λ telescoper.
-    Closes-bind (nothing ▸ H ▸ Place place ▸ T telescoper) Q L (rules.quotients_from names summed []) _ (Goes-quotients names summed) (λ quotients.
-    Closes-bind (nothing ▸ H ▸ Place place ▸ T telescoper ▸ Q quotients) S L (rules.keyed names (codes "scale") false) _ (Goes-keyed names (codes "scale") false) (λ scale.
-    Closes-bind (nothing ▸ H ▸ Place place ▸ T telescoper ▸ Q quotients ▸ S scale) F L (rules.factors_of names summed []) _ (Goes-factors names summed) (λ factors.
-    Closes-bind (nothing ▸ H ▸ Place place ▸ T telescoper ▸ Q quotients ▸ S scale ▸ F factors) C L (rules.cofactors_from names 1 count []) _ (Goes-cofactors names count low) (λ xs.
-    Closes-last (nothing ▸ H ▸ Place place ▸ T telescoper ▸ Q quotients ▸ S scale ▸ F factors ▸ C xs) L
+    Closes-bind nothing _ L (read.header (codes "report")) _ (Goes-header (codes "report")) (λ _.
+    Closes-bind _ _ L rules.found_line _ Goes-found_line (λ place.
+    Closes-bind _ _ L (rules.keyed names (codes "telescoper") true) _ (Goes-keyed names (codes "telescoper") true) (λ telescoper.
+    Closes-bind _ _ L (rules.quotients_from names summed []) _ (Goes-quotients names summed) (λ quotients.
+    Closes-bind _ _ L (rules.keyed names (codes "scale") false) _ (Goes-keyed names (codes "scale") false) (λ scale.
+    Closes-bind _ _ L (rules.factors_of names summed []) _ (Goes-factors names summed) (λ factors.
+    Closes-bind _ _ L (rules.cofactors_from names 1 count []) _ (Goes-cofactors names count low) (λ xs.
+    Closes-last _ L
     (record { index = place.0; order = place.1; degree = place.2; telescoper = telescoper; quotients = quotients; scale = scale; factors = factors; cofactors = xs })
     (λ ls h. on_first (λ a1. on_first (λ a2. on_first (λ a3. on_first (λ a4. on_first (λ a5. on_first (λ a6 k. nothing_joined k)))))) h))))))))
   where
@@ -108,24 +106,6 @@ Closes-report variables count low =
 
     summed : List (List ℕ)
     summed = summed_texts variables
-
-    H : Texts
-    H = header (codes "report")
-
-    T : Expr → Texts
-    T = keyed names (codes "telescoper") true
-
-    Q : List Quotient → Texts
-    Q = each_with (quotient names) summed
-
-    S : Expr → Texts
-    S = keyed names (codes "scale") false
-
-    F : List Expr → Texts
-    F = each_with (part names (codes "part") false) summed
-
-    C : List Expr → Texts
-    C = AreCofactors names count
 
     L : Report → Texts
     L = Lines variables count
