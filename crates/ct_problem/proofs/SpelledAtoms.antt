@@ -98,10 +98,8 @@ module _ (names : Names) (operators : Bool) where
   Continues-symbol : (action : Action) (w : List ℕ) → Continues (one (Word w)) (expect 91 >> (acting names action >>= (λ found. expect 93 >> pure found))) (Symbolic action w)
   unfolding Symbolic
   Continues-symbol action w =
-      Continues-bind (λ (_ : Unit {0}). one (Sign 91)) (Symbolic action w) (expect 91) _ (Spells-expect 91) (λ _.
-      Continues-bind (Acts action) (Symbolic action w) (acting names action) _ (Spells-acting action) (λ x.
-      Continues-bind (λ (_ : Unit {0}). one (Sign 93)) (Symbolic action w) (expect 93) _ (Spells-expect 93) (λ _.
-      Continues-pure (Symbolic action w) x (λ ls h. h))))
+      Continues-bind _ (Symbolic action w) _ _ (Spells-expect 91) (λ _. Continues-bind _ (Symbolic action w) _ _ (Spells-acting action) (λ x.
+      Continues-bind _ (Symbolic action w) _ _ (Spells-expect 93) (λ _. Continues-pure (Symbolic action w) x (λ ls h. h))))
 
   symbol_is : (action : Action) (w : List ℕ) (i j : Input) (x : Expr) → input.symbol i ≡ Some symbol.Word → spelling i ≡ w → symbol_by names action i ≡ Ok (x, j) → Spelled (Symbolic action w x) i j
   unfolding symbol_by Symbolic
@@ -119,13 +117,11 @@ module _ (names : Names) (operators : Bool) where
     Spells-constant : Spells constant Atom
     unfolding constant
     Spells-constant =
-        Spells-bind (number largest_norm) Atom whole _ Spells-whole (λ n.
-        Continues-bind (optional (Sign 47)) Atom (eat 47) _ (Spells-eat 47) (λ is_ratio. by n is_ratio))
+        Spells-bind _ Atom _ _ Spells-whole (λ n. Continues-bind _ Atom _ _ (Spells-eat 47) (λ is_ratio. by n is_ratio))
       where
         by : (n : ℕ) (is_ratio : Bool) → Continues (number largest_norm n ▸ optional (Sign 47) is_ratio) (cond is_ratio (divisor >>= (λ d. pure (e.Ratio (pos n) (pos d)))) (pure (e.Whole (pos n)))) Atom
         by n true =
-            Continues-bind Divisor Atom divisor (λ d. pure (e.Ratio (pos n) (pos d))) Spells-divisor (λ d.
-            Continues-pure Atom (e.Ratio (pos n) (pos d)) (λ ls h.
+            Continues-bind _ Atom _ _ Spells-divisor (λ d. Continues-pure Atom (e.Ratio (pos n) (pos d)) (λ ls h.
             IsAtom.ratio n d refl h.second.0 (record { front = h.front; back = h.back; parts = h.parts; first = h.first; second = h.second.1 })))
         by n false = Continues-pure Atom (e.Whole (pos n)) (λ ls h. IsAtom.whole n refl (joined_nothing h))
 

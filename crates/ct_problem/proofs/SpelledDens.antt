@@ -9,7 +9,7 @@ use Rattle.ct_problem.specs.declared.reading.names.Known.TheVariants.{Variable, 
 use Rattle.ct_problem.specs.DenLines.{Dens, no_dens, is_given, with_den, is_summed_name, summed_by, summed_word, summed_name, once, den_line, den_lines, den_lines_from}
 use Rattle.ct_problem.specs.Input.{Input, Parser, ◌>>=◌, ◌>>◌, pure, fault, look, place, skip, next, expect, spelling, sees_word}
 use Rattle.ct_problem.specs.Input as input
-use Rattle.ct_problem.specs.Lexemes.{Lexeme, Word, Sign, nothing, one, ◌▸◌, each}
+use Rattle.ct_problem.specs.Lexemes.{Lexeme, Word, nothing, one, ◌▸◌, each}
 use Rattle.ct_problem.specs.GrammarProblem as grammar
 use Rattle.ct_problem.specs.GrammarProblem.{IsSummed, value}
 use Rattle.ct_problem.specs.Lines.{no_more}
@@ -64,12 +64,11 @@ module _ (names : Names) where
       → Goes (one (Word (codes "den")) ▸ grammar.summed names at) (once names given start >> (expect 58 >> (read.value names false >>= (λ x. pure (with_den at x found))))) (OneDen found)
   once_goes found start at true e = λ i j x h. cc
   once_goes found start at false e =
-      Goes-then (one (Word (codes "den")) ▸ grammar.summed names at) (λ (_ : Unit {0}). one (Sign 58)) (OneDen found) (expect 58) _ (Spells-expect 58) (λ _.
-      Goes-bind (one (Word (codes "den")) ▸ grammar.summed names at ▸ one (Sign 58)) (value names false) (OneDen found) (read.value names false) (λ x. pure (with_den at x found)) (Goes-value names false) (λ x.
-      Goes-pure (one (Word (codes "den")) ▸ grammar.summed names at ▸ one (Sign 58) ▸ value names false x) (OneDen found) (with_den at x found) (λ ls h. record { line = (at, x); other = e; gives = refl; spelled = h })))
+      Goes-then _ _ (OneDen found) _ _ (Spells-expect 58) (λ _. Goes-bind _ _ (OneDen found) _ _ (Goes-value names false) (λ x.
+      Goes-pure _ (OneDen found) (with_den at x found) (λ ls h. record { line = (at, x); other = e; gives = refl; spelled = h })))
 
   after_key : (found : Dens) (start : ℕ) → Goes (one (Word (codes "den"))) (summed_name names >>= (λ at. once names (is_given at found) start >> (expect 58 >> (read.value names false >>= (λ x. pure (with_den at x found)))))) (OneDen found)
-  after_key found start = Goes-then (one (Word (codes "den"))) (grammar.summed names) (OneDen found) (summed_name names) _ Spells-summed_name (λ at. once_goes found start at (is_given at found) refl)
+  after_key found start = Goes-then _ _ (OneDen found) _ _ Spells-summed_name (λ at. once_goes found start at (is_given at found) refl)
 
   den_is : (found : Dens) (i j : Input) (after : Dens) → sees_word (codes "den") i ≡ true → den_line names found i ≡ Ok (after, j) → Going nothing (OneDen found after) i j
   unfolding den_line
@@ -94,8 +93,7 @@ module _ (names : Names) where
 
   one_den : (n : ℕ) (found : Dens) → ((ds : Dens) → Goes nothing (den_lines_from names n ds) (MoreDens ds)) → (ds : Dens) → Goes (OneDen found ds) (den_lines_from names n ds) (MoreDens found)
   one_den n found others ds =
-      Goes-as (OneDen found ds) (MoreDens found) (MoreDens ds) (den_lines_from names n ds) (others ds) (λ dens ls h.
-      let one = h.first in
+      Goes-as _ (MoreDens found) _ _ (others ds) (λ dens ls h. let one = h.first in
       record {
         lines = one.line ∷ h.second.lines;
         gives = (one.other, subst (λ (es : Dens). grammar.Gives names es h.second.lines dens) one.gives h.second.gives);
@@ -104,19 +102,18 @@ module _ (names : Names) where
 
   line_goes : (n : ℕ) (found : Dens) → ((ds : Dens) → Goes nothing (den_lines_from names n ds) (MoreDens ds)) → (i j : Input) (dens : Dens) (b : Bool) → sees_word (codes "den") i ≡ b
       → cond {A = Parser Dens} b (den_line names found >>= (λ ds. den_lines_from names n ds)) (pure found) i ≡ Ok (dens, j) → Going nothing (MoreDens found dens) i j
-  line_goes n found others i j dens false e h = Goes-pure nothing (MoreDens found) found (no_den found) i j dens h
+  line_goes n found others i j dens false e h = Goes-pure _ (MoreDens found) found (no_den found) i j dens h
   line_goes n found others i j dens true e h =
       by_whole nothing (OneDen found) (MoreDens found) (λ ds. den_lines_from names n ds) i j dens (den_line names found i) (λ x k read. den_is found i k x e read) (one_den n found others) h
 
   Goes-lines : (n : ℕ) (found : Dens) → Goes nothing (den_lines_from names n found) (MoreDens found)
   unfolding den_lines_from
-  Goes-lines zero found = Goes-past_test nothing (MoreDens found) (codes "den") (pure found) (Goes-pure (nothing ▸ nothing) (MoreDens found) found (λ ls h. no_den found ls (nothing_joined h)))
+  Goes-lines zero found = Goes-past_test nothing (MoreDens found) (codes "den") (pure found) (Goes-pure _ (MoreDens found) found (λ ls h. no_den found ls (nothing_joined h)))
   Goes-lines (suc n) found = λ i j dens h. line_goes n found (λ ds. Goes-lines n ds) i j dens (sees_word (codes "den") i) refl h
 
   pub Goes-den_lines : Goes nothing (den_lines names) (grammar.den_lines names)
   unfolding den_lines
   Goes-den_lines =
-      Goes-as nothing (grammar.den_lines names) (MoreDens (no_dens names.variables)) (den_lines_from names (max 1 (length (summed_texts names.variables))) (no_dens names.variables))
-      (Goes-lines (max 1 (length (summed_texts names.variables))) (no_dens names.variables)) (λ dens ls h.
-      let m = nothing_joined h in
+      Goes-as _ (grammar.den_lines names) _ _
+      (Goes-lines (max 1 (length (summed_texts names.variables))) (no_dens names.variables)) (λ dens ls h. let m = nothing_joined h in
       record { lines = m.lines; gives = m.gives; spelled = m.spelled })

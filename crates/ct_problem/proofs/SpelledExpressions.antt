@@ -38,7 +38,7 @@ module _ (names : Names) (operators : Bool) where
 
     Spells-joint : Spells joint Joint
     unfolding joint Joint
-    Spells-joint = Spells-bind (optional (Sign 43)) Joint (eat 43) _ (Spells-eat 43) by
+    Spells-joint = Spells-bind _ Joint _ _ (Spells-eat 43) by
       where
         at_minus : (minus : Bool) → Continues (nothing ▸ optional (Sign 45) minus) (pure (cond minus (Some true) None)) Joint
         at_minus true = Continues-pure Joint (Some true) (λ ls h. nothing_joined h)
@@ -46,7 +46,7 @@ module _ (names : Names) (operators : Bool) where
 
         by : (plus : Bool) → Continues (optional (Sign 43) plus) (cond plus (pure (Some false)) (eat 45 >>= (λ minus. pure (cond minus (Some true) None)))) Joint
         by true = Continues-pure Joint (Some false) (λ ls h. h)
-        by false = Continues-bind (optional (Sign 45)) Joint (eat 45) _ (Spells-eat 45) at_minus
+        by false = Continues-bind _ Joint _ _ (Spells-eat 45) at_minus
 
     made : Term → Summand
     made t = summand t.0 t.1
@@ -67,7 +67,7 @@ module _ (names : Names) (operators : Bool) where
         → Continues (Joint (Some negative)) (term names operators inner >>= (λ x. summands_from names operators inner n (found ++ summand negative x ∷ []))) (OneMore found)
     unfolding Joint
     after_joint n found negative others =
-        Continues-bind ATerm (OneMore found) (term names operators inner) _ (Spells-term names operators inner InParentheses opens) (λ x.
+        Continues-bind _ (OneMore found) _ _ (Spells-term names operators inner InParentheses opens) (λ x.
         Continues-last (OneMore found) (More (found ++ summand negative x ∷ [])) (summands_from names operators inner n (found ++ summand negative x ∷ [])) (others x) (λ xs ls h. record {
           next = (negative, x);
           more = h.second.more;
@@ -84,7 +84,7 @@ module _ (names : Names) (operators : Bool) where
     Spells-summands_from : (n : ℕ) (found : List Summand) → Spells (summands_from names operators inner n found) (More found)
     unfolding summands_from Joint
     Spells-summands_from zero found = Spells-pure (More found) found (record { more = []; value = sym (append-nil found); spelled = refl })
-    Spells-summands_from (suc n) found = Spells-bind Joint (More found) joint _ Spells-joint (by (λ negative x. Spells-summands_from n (found ++ summand negative x ∷ [])))
+    Spells-summands_from (suc n) found = Spells-bind _ (More found) _ _ Spells-joint (by (λ negative x. Spells-summands_from n (found ++ summand negative x ∷ [])))
       where
         by : ((negative : Bool) (x : Expr) → Spells (summands_from names operators inner n (found ++ summand negative x ∷ [])) (More (found ++ summand negative x ∷ []))) → (sign : Option Bool)
             → Continues (Joint sign) (cond (is_none sign) (pure found) (term names operators inner >>= (λ x. summands_from names operators inner n (found ++ summand (is_minus sign) x ∷ [])))) (More found)
@@ -144,8 +144,7 @@ module _ (names : Names) (operators : Bool) where
     after_minus : (first : Expr) → Continues (one (Sign 45) ▸ ATerm first) (rest_of_sum true first) ASum
     unfolding rest_of_sum
     after_minus first =
-        Continues-bind (More (summand true first ∷ [])) ASum (summands names operators inner first true) _ (Spells-summands first true) (λ xs.
-        Continues-pure ASum (e.Sum xs) (λ ls h. record {
+        Continues-bind _ ASum _ _ (Spells-summands first true) (λ xs. Continues-pure ASum (e.Sum xs) (λ ls h. record {
           negative = true;
           first = first;
           more = h.second.more;
@@ -185,8 +184,8 @@ module _ (names : Names) (operators : Bool) where
     Spells-sum : Spells (sum names operators inner) ASum
     unfolding sum rest_of_sum
     Spells-sum =
-        Spells-bind (optional (Sign 45)) ASum (eat 45) _ (Spells-eat 45) (λ negative.
-        Continues-bind ATerm ASum (term names operators inner) (rest_of_sum negative) (Spells-term names operators inner InParentheses opens) (λ first. after_first_term negative first))
+        Spells-bind _ ASum _ _ (Spells-eat 45) (λ negative.
+        Continues-bind _ ASum _ _ (Spells-term names operators inner InParentheses opens) (λ first. after_first_term negative first))
 
   -- what is read in parentheses
   Within : ℕ → Expr → Texts
@@ -195,8 +194,7 @@ module _ (names : Names) (operators : Bool) where
   inside : (depth : ℕ) → Spells (sum names operators (nested names operators depth)) (IsSum names operators (IsNested names operators depth)) → Continues (one (Sign 40)) (sum names operators (nested names operators depth) >>= (λ inner. expect 41 >> pure inner)) (Within depth)
   unfolding Within
   inside depth within =
-      Continues-bind (IsSum names operators (IsNested names operators depth)) (Within depth) (sum names operators (nested names operators depth)) _ within (λ inner.
-      Continues-bind (λ (_ : Unit {0}). one (Sign 41)) (Within depth) (expect 41) _ (Spells-expect 41) (λ _.
+      Continues-bind _ (Within depth) _ _ within (λ inner. Continues-bind _ (Within depth) _ _ (Spells-expect 41) (λ _.
       Continues-pure (Within depth) inner (λ ls h. h)))
 
   opens_nested : (depth : ℕ) (i j : Input) (x : Expr) → input.symbol i ≡ Some (symbol.Sign 40) → nested names operators depth i ≡ Ok (x, j) → Spelled (IsNested names operators depth x) i j

@@ -16,10 +16,8 @@ use Rattle.ct_problem.specs.declared.reading.names.Known.{Known}
 use Rattle.ct_problem.specs.declared.reading.names.Known.TheVariants.{Variable, Let, Unknown}
 use Rattle.ct_problem.specs.Input.{Input, ◌>>=◌, ◌>>◌, pure, skip, next, peek, eat, eat_word, expect, line_end, spelling, sees_word}
 use Rattle.ct_problem.specs.Input as input
-use Rattle.ct_problem.specs.Declarations.{new_name}
-use Rattle.ct_problem.specs.Expressions.{expression}
 use Rattle.ct_problem.specs.LetLines.{with_definitions, begins_expression, list_by, list_word, list_name, one_too_many, listed_from, two_lists, applied, form_by, let_word, form_of_word, let_form, definition, let_lines, let_lines_from}
-use Rattle.ct_problem.specs.Lexemes.{Lexeme, Word, Sign, LineEnd, Texts, nothing, one, optional, ◌▸◌, each}
+use Rattle.ct_problem.specs.Lexemes.{Lexeme, Word, Sign, Texts, nothing, one, optional, ◌▸◌, each}
 use Rattle.ct_problem.specs.Grammar.{IsExpression}
 use Rattle.ct_problem.specs.GrammarLets as lets
 use Rattle.ct_problem.specs.GrammarLets.{IsList}
@@ -104,8 +102,8 @@ module _ (names : Names) where
   unfolding listed_from
   Spells-listed_from zero found = none_listed found
   Spells-listed_from (suc n) found =
-      Spells-bind (IsExpression names true) (MoreListed (suc n) found) (expression names true) _ (Spells-expression names true) (λ x.
-      Continues-bind (optional (Sign 59)) (MoreListed (suc n) found) (eat 59) (λ more. cond more (listed_from names n (found ++ x ∷ [])) (pure (found ++ x ∷ []))) (Spells-eat 59) (λ more.
+      Spells-bind _ (MoreListed (suc n) found) _ _ (Spells-expression names true) (λ x.
+      Continues-bind _ (MoreListed (suc n) found) _ _ (Spells-eat 59) (λ more.
       one_listed n found (λ y. Spells-listed_from n (found ++ y ∷ [])) x more))
 
   Lists : ℕ × ℕ → Texts
@@ -114,9 +112,7 @@ module _ (names : Names) where
   Spells-two_lists : Spells (two_lists names) Lists
   unfolding two_lists Lists
   Spells-two_lists =
-      Spells-bind (lets.list names) Lists (list_name names) _ Spells-list_name (λ a.
-      Continues-bind (lets.list names) Lists (list_name names) (λ b. pure (a, b)) Spells-list_name (λ b.
-      Continues-pure Lists (a, b) (λ ls h. h)))
+      Spells-bind _ Lists _ _ Spells-list_name (λ a. Continues-bind _ Lists _ _ Spells-list_name (λ b. Continues-pure Lists (a, b) (λ ls h. h)))
 
   -- what stands behind the word
   word_of : LetWord → List ℕ
@@ -137,14 +133,12 @@ module _ (names : Names) where
 
   after_word : (word : LetWord) → Continues (one (Word (word_of word))) (form_by names word) Form
   unfolding word_of Form Lists applied
-  after_word Gens = Continues-bind (MoreListed 16 []) Form (listed_from names 16 []) (λ xs. pure (form.Gens xs)) (Spells-listed_from 16 []) (λ xs. Continues-pure Form (form.Gens xs) (listed_is xs))
-  after_word Plus = Continues-bind Lists Form (two_lists names) (λ p. pure (form.Plus p.0 p.1)) Spells-two_lists (λ p. Continues-pure Form (form.Plus p.0 p.1) (λ ls h. joined_to_left h))
-  after_word Product = Continues-bind Lists Form (two_lists names) (λ p. pure (form.Product p.0 p.1)) Spells-two_lists (λ p. Continues-pure Form (form.Product p.0 p.1) (λ ls h. joined_to_left h))
+  after_word Gens = Continues-bind _ Form _ _ (Spells-listed_from 16 []) (λ xs. Continues-pure Form (form.Gens xs) (listed_is xs))
+  after_word Plus = Continues-bind _ Form _ _ Spells-two_lists (λ p. Continues-pure Form (form.Plus p.0 p.1) (λ ls h. joined_to_left h))
+  after_word Product = Continues-bind _ Form _ _ Spells-two_lists (λ p. Continues-pure Form (form.Product p.0 p.1) (λ ls h. joined_to_left h))
   after_word Apply =
-      Continues-bind (lets.list names) Form (list_name names) _ Spells-list_name (λ at.
-      Continues-bind (λ (_ : Unit {0}). one (Sign 58)) Form (expect 58) _ (Spells-expect 58) (λ _.
-      Continues-bind (IsExpression names true) Form (expression names true) (λ x. pure (form.Apply at x)) (Spells-expression names true) (λ x.
-      Continues-pure Form (form.Apply at x) (λ ls h. h))))
+      Continues-bind _ Form _ _ Spells-list_name (λ at. Continues-bind _ Form _ _ (Spells-expect 58) (λ _.
+      Continues-bind _ Form _ _ (Spells-expression names true) (λ x. Continues-pure Form (form.Apply at x) (λ ls h. h))))
 
   begins_with : (i : Input) (word : LetWord) → let_word i ≡ Some word → sees_word (word_of word) i ≡ true
   unfolding let_word word_of
@@ -172,11 +166,9 @@ module _ (names : Names) where
   pub Goes-definition : Goes (one (Word (codes "let"))) (definition names) (lets.let_line names)
   unfolding definition Form
   Goes-definition =
-      Goes-then (one (Word (codes "let"))) (lets.declared names) (lets.let_line names) (new_name names) _ (Spells-new_name names) (λ text.
-      Goes-then (one (Word (codes "let")) ▸ lets.declared names text) (λ (_ : Unit {0}). one (Sign 61)) (lets.let_line names) (expect 61) _ (Spells-expect 61) (λ _.
-      Goes-then (one (Word (codes "let")) ▸ lets.declared names text ▸ one (Sign 61)) Form (lets.let_line names) (let_form names) _ Spells-let_form (λ f.
-      Goes-bind (one (Word (codes "let")) ▸ lets.declared names text ▸ one (Sign 61) ▸ Form f) (λ (_ : Unit {0}). one LineEnd) (lets.let_line names) line_end (λ _. pure (record { text = text; form = f })) Goes-line_end (λ _.
-      Goes-pure (one (Word (codes "let")) ▸ lets.declared names text ▸ one (Sign 61) ▸ Form f ▸ one LineEnd) (lets.let_line names) (record { text = text; form = f }) (λ ls h. h)))))
+      Goes-then _ _ (lets.let_line names) _ _ (Spells-new_name names) (λ text. Goes-then _ _ (lets.let_line names) _ _ (Spells-expect 61) (λ _.
+      Goes-then _ _ (lets.let_line names) _ _ Spells-let_form (λ f. Goes-bind _ _ (lets.let_line names) _ _ Goes-line_end (λ _.
+      Goes-pure _ (lets.let_line names) (record { text = text; form = f }) (λ ls h. h)))))
 
 -- ---- lines
 

@@ -2,14 +2,12 @@
 use Rattle.std.proofs.Common.{ℕ, Bool, true, false, List, arith, codes}
 use Rattle.ct_expr.specs.declared.expr.Expr.{Expr}
 use Rattle.ct_problem.specs.declared.fault.BadKind.TheVariants.{TooMany}
-use Rattle.ct_problem.specs.Input.{Parser, ◌>>◌, pure, look, expect, expect_word, sees_word, line_end}
+use Rattle.ct_problem.specs.Input.{Parser, ◌>>◌, pure, sees_word, line_end}
 use Rattle.ct_problem.specs.Number.{fault_if}
-use Rattle.ct_problem.specs.Number as digits
-use Rattle.ct_problem.specs.Expressions.{expression}
 use Rattle.ct_problem.specs.Lines as read
 use Rattle.ct_problem.specs.Names.{Names}
 use Rattle.ct_problem.specs.ReportLines as rules
-use Rattle.ct_problem.specs.Lexemes.{Lexeme, Word, Number, Sign, LineEnd, Texts, nothing, one, ◌▸◌}
+use Rattle.ct_problem.specs.Lexemes.{Lexeme, LineEnd, Texts, nothing, one, ◌▸◌}
 use Rattle.ct_problem.specs.Grammar.{IsExpression}
 use Rattle.ct_problem.specs.GrammarProblem.{header, value, keyed}
 use Rattle.ct_problem.specs.GrammarReport.{part}
@@ -21,10 +19,8 @@ use Rattle.ct_problem.proofs.SpelledRuns.{Goes, Goes-pure, Goes-look, Goes-fault
 pub Goes-header : (kind : List ℕ) → Goes nothing (read.header kind) (λ _. header kind)
 unfolding read.header
 Goes-header kind =
-    Goes-begin (λ _. one (Word (codes "mgfun"))) H (expect_word (codes "mgfun")) _ (Spells-expect_word (codes "mgfun")) (λ _.
-    Goes-then (one (Word (codes "mgfun"))) (λ _. one (Word kind)) H (expect_word kind) _ (Spells-expect_word kind) (λ _.
-    Goes-then (one (Word (codes "mgfun")) ▸ one (Word kind)) (λ _. one (Number 1)) H (digits.exactly 1) _ (Spells-exactly 1 (omega arith)) (λ _.
-    Goes-as (one (Word (codes "mgfun")) ▸ one (Word kind) ▸ one (Number 1)) H (λ _. one LineEnd) line_end Goes-line_end (λ x ls h. h))))
+    Goes-begin _ H _ _ (Spells-expect_word (codes "mgfun")) (λ _. Goes-then _ _ H _ _ (Spells-expect_word kind) (λ _.
+    Goes-then _ _ H _ _ (Spells-exactly 1 (omega arith)) (λ _. Goes-as _ H _ _ Goes-line_end (λ x ls h. h))))
   where
     H : Unit {0} → Texts
     H _ = header kind
@@ -32,43 +28,41 @@ Goes-header kind =
 -- a test that takes nothing
 pub Goes-no_more : (key : List ℕ) → Goes nothing (read.no_more key) (λ _. nothing)
 unfolding read.no_more
-Goes-no_more key = Goes-whole nothing (λ (_ : Bool). nothing) N (look (sees_word key)) (λ more. fault_if more TooMany) (Goes-look nothing (λ _. nothing) (sees_word key) (λ x ls h. h)) by
+Goes-no_more key = Goes-whole _ _ N _ _ (Goes-look nothing (λ _. nothing) (sees_word key) (λ x ls h. h)) by
   where
     N : Unit {0} → Texts
     N _ = nothing
 
     by : (more : Bool) → Goes nothing (fault_if more TooMany) N
     by true = Goes-fault nothing N TooMany
-    by false = Goes-pure nothing N tt (λ ls h. h)
+    by false = Goes-pure _ N tt (λ ls h. h)
 
 -- the rest of the lines, past such a test
 pub Goes-past_test : {A : Type 0} (D : Texts) (L : A → Texts) (key : List ℕ) (p : Parser A) → Goes (D ▸ nothing) p L → Goes D (read.no_more key >> p) L
-Goes-past_test D L key p rest = Goes-bind D (λ (_ : Unit {0}). nothing) L (read.no_more key) (λ _. p) (Goes-no_more key) (λ _. rest)
+Goes-past_test D L key p rest = Goes-bind _ _ L _ _ (Goes-no_more key) (λ _. rest)
 
 module _ (names : Names) where
   -- the end of a line, and a value that is known
   pub Goes-ended : {A : Type 0} (D : Texts) (L : A → Texts) (x : A) → ((ls : List Lexeme) → (D ▸ one LineEnd) ls → L x ls) → Goes D (line_end >> pure x) L
-  Goes-ended D L x h = Goes-bind D (λ (_ : Unit {0}). one LineEnd) L line_end (λ _. pure x) Goes-line_end (λ _. Goes-pure (D ▸ one LineEnd) L x h)
+  Goes-ended D L x h = Goes-bind _ _ L _ _ Goes-line_end (λ _. Goes-pure _ L x h)
 
   pub Goes-value : (operators : Bool) → Goes nothing (read.value names operators) (value names operators)
   unfolding read.value
   Goes-value operators =
-      Goes-begin (IsExpression names operators) (value names operators) (expression names operators) _ (Spells-expression names operators) (λ x.
+      Goes-begin _ (value names operators) _ _ (Spells-expression names operators) (λ x.
       Goes-ended (IsExpression names operators x) (value names operators) x (λ ls h. h))
 
   pub Goes-keyed : (key : List ℕ) (operators : Bool) → Goes nothing (rules.keyed names key operators) (keyed names key operators)
   unfolding rules.keyed
   Goes-keyed key operators =
-      Goes-begin (λ (_ : Unit {0}). one (Word key)) (keyed names key operators) (expect_word key) _ (Spells-expect_word key) (λ _.
-      Goes-as (one (Word key)) (keyed names key operators) (value names operators) (read.value names operators) (Goes-value operators) (λ x ls h. h))
+      Goes-begin _ (keyed names key operators) _ _ (Spells-expect_word key) (λ _.
+      Goes-as _ (keyed names key operators) _ _ (Goes-value operators) (λ x ls h. h))
 
   pub Goes-part : (key text : List ℕ) (operators : Bool) → Goes nothing (read.part names key text operators) (part names key operators text)
   unfolding read.part
   Goes-part key text operators =
-      Goes-begin (λ (_ : Unit {0}). one (Word key)) L (expect_word key) _ (Spells-expect_word key) (λ _.
-      Goes-then (one (Word key)) (λ (_ : Unit {0}). one (Word text)) L (expect_word text) _ (Spells-expect_word text) (λ _.
-      Goes-then (one (Word key) ▸ one (Word text)) (λ (_ : Unit {0}). one (Sign 58)) L (expect 58) _ (Spells-expect 58) (λ _.
-      Goes-as (one (Word key) ▸ one (Word text) ▸ one (Sign 58)) L (value names operators) (read.value names operators) (Goes-value operators) (λ x ls h. h))))
+      Goes-begin _ L _ _ (Spells-expect_word key) (λ _. Goes-then _ _ L _ _ (Spells-expect_word text) (λ _.
+      Goes-then _ _ L _ _ (Spells-expect 58) (λ _. Goes-as _ L _ _ (Goes-value operators) (λ x ls h. h))))
     where
       L : Expr → Texts
       L = part names key operators text

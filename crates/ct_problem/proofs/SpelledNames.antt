@@ -95,13 +95,12 @@ FreeAction Still = lets.none
 
 Spells-free_action : Spells free_action FreeAction
 unfolding free_action FreeAction
-Spells-free_action = Spells-bind (optional (Word (codes "shift"))) FreeAction (eat_word (codes "shift")) _ (Spells-eat_word (codes "shift")) by
+Spells-free_action = Spells-bind _ FreeAction _ _ (Spells-eat_word (codes "shift")) by
   where
     by : (is_shift : Bool) → Continues (optional (Word (codes "shift")) is_shift) (cond is_shift (pure Shift) (expect_word (codes "diff") >> pure Derive)) FreeAction
     by true = Continues-pure FreeAction Shift (λ ls h. h)
     by false =
-        Continues-bind (λ (_ : Unit {0}). one (Word (codes "diff"))) FreeAction (expect_word (codes "diff")) _ (Spells-expect_word (codes "diff")) (λ _.
-        Continues-pure FreeAction Derive (λ ls h. nothing_joined h))
+        Continues-bind _ FreeAction _ _ (Spells-expect_word (codes "diff")) (λ _. Continues-pure FreeAction Derive (λ ls h. nothing_joined h))
 
 -- the line of this name, for which there is room
 record Line (found : List Naming) (n : Naming) (ls : List Lexeme) : Type 0 where
@@ -116,12 +115,12 @@ module _ (found : List Naming) (text : List ℕ) where
     ended : (D : Texts) (action : Action) → HasRoom found action (role_of_line line) → ((ls : List Lexeme) → (D ▸ one LineEnd) ls → grammar.name_line found action (role_of_line line) text ls)
         → Goes D (line_end >> pure (record { text = text; action = action; role = role_of_line line })) (Line found)
     ended D action room h =
-        Goes-bind D (λ (_ : Unit {0}). one LineEnd) (Line found) line_end (λ _. pure (record { text = text; action = action; role = role_of_line line })) Goes-line_end (λ _.
-        Goes-pure (D ▸ one LineEnd) (Line found) (record { text = text; action = action; role = role_of_line line }) (λ ls k. record { room = room; spelled = h ls k }))
+        Goes-bind _ _ (Line found) _ _ Goes-line_end (λ _.
+        Goes-pure _ (Line found) (record { text = text; action = action; role = role_of_line line }) (λ ls k. record { room = room; spelled = h ls k }))
 
   after_text : (line : NameLine) → is_full line found ≡ false → Goes (Head line) (action_of_line line >>= (λ action. line_end >> pure (record { text = text; action = action; role = role_of_line line }))) (Line found)
   unfolding FreeAction Head
-  after_text Free full = Goes-then (Head Free) FreeAction (Line found) free_action _ Spells-free_action by
+  after_text Free full = Goes-then _ _ (Line found) _ _ Spells-free_action by
     where
       by : (action : Action) → Goes (Head Free ▸ FreeAction action) (line_end >> pure (record { text = text; action = action; role = role_of_line Free })) (Line found)
       by Shift = ended Free (Head Free ▸ FreeAction Shift) Shift (room_is found Shift Free refl full) (λ ls h. h)
@@ -134,7 +133,7 @@ module _ (found : List Naming) (text : List ℕ) where
 module _ (found : List Naming) where
   after_key : (line : NameLine) → is_full line found ≡ false → Goes (one (Word (key_of line))) (new_name (declared found) >>= (λ text. action_of_line line >>= (λ action. line_end >> pure (record { text = text; action = action; role = role_of_line line })))) (Line found)
   unfolding Head
-  after_key line full = Goes-then (one (Word (key_of line))) (lets.declared (declared found)) (Line found) (new_name (declared found)) _ (Spells-new_name (declared found)) (λ text. after_text found text line full)
+  after_key line full = Goes-then _ _ (Line found) _ _ (Spells-new_name (declared found)) (λ text. after_text found text line full)
 
   -- a name line, where its first word comes next
   declared_is : (line : NameLine) (i j : Input) (n : Naming) → name_line i ≡ Some line → declaration line found i ≡ Ok (n, j) → Going nothing (Line found n) i j
@@ -197,11 +196,11 @@ pub record FewNames (ns : List Naming) (ls : List Lexeme) : Type 0 where
 
 pub Goes-declarations : Goes nothing declarations FewNames
 unfolding declarations Names_after
-Goes-declarations = Goes-whole nothing (Lines 6 []) FewNames (declarations_from 6 []) some_names (Goes-all (Lines 6 []) (declarations_from 6 []) (Goes-lines 6 [])) by
+Goes-declarations = Goes-whole _ _ FewNames _ _ (Goes-all (Lines 6 []) (declarations_from 6 []) (Goes-lines 6 [])) by
   where
     by : (ns : List Naming) → Goes (Lines 6 [] ns) (some_names ns) FewNames
     by [] = Goes-fault (Lines 6 [] []) FewNames Syntax
-    by (n ∷ ns) = Goes-pure (Lines 6 [] (n ∷ ns)) FewNames (n ∷ ns) (λ ls h.
+    by (n ∷ ns) = Goes-pure _ FewNames (n ∷ ns) (λ ls h.
         let few = h.few in
         let within = rooms_fit [] (n ∷ ns) h.rooms (record { operators = omega arith; summed = omega arith }) in
         let summed = within.summed in

@@ -6,19 +6,15 @@ use Rattle.ct_problem.specs.declared.fault.BadKind.TheVariants.{OutOfRange, Empt
 use Rattle.ct_problem.specs.declared.problem.Gens.{Gens}
 use Rattle.ct_problem.specs.declared.problem.Gens.TheVariants.{Listed, Named}
 use Rattle.ct_problem.specs.declared.problem.Range.{Range}
-use Rattle.ct_problem.specs.Input.{◌>>=◌, ◌>>◌, pure, skip, next, eat_word, line_end, dots, fresh_line}
-use Rattle.ct_problem.specs.Declarations.{declarations}
-use Rattle.ct_problem.specs.DenLines.{den_lines}
+use Rattle.ct_problem.specs.Input.{◌>>=◌, ◌>>◌, pure, skip, next, line_end}
 use Rattle.ct_problem.specs.GrammarLets as lets
 use Rattle.ct_problem.specs.GrammarProblem as grammar
 use Rattle.ct_problem.specs.GrammarProblem.{AreFew}
-use Rattle.ct_problem.specs.LetLines.{Definition, with_definitions, let_lines, list_name}
-use Rattle.ct_problem.specs.Lexemes.{Lexeme, Word, Dots, LineEnd, Texts, nothing, one, optional, number, ◌▸◌}
-use Rattle.ct_problem.specs.Lines.{no_more, value_lines}
-use Rattle.ct_problem.specs.Lines as read
+use Rattle.ct_problem.specs.LetLines.{Definition, with_definitions}
+use Rattle.ct_problem.specs.Lexemes.{Lexeme, Word, LineEnd, Texts, nothing, one, optional, number, ◌▸◌}
+use Rattle.ct_problem.specs.Lines.{no_more}
 use Rattle.ct_problem.specs.Names.{Names}
-use Rattle.ct_problem.specs.Number.{coming_number, fault_if}
-use Rattle.ct_problem.specs.Number as digits
+use Rattle.ct_problem.specs.Number.{fault_if}
 use Rattle.ct_problem.specs.ProblemLines.{used, listed_or_used, generators, high_number, range, range_line}
 use Rattle.ct_problem.specs.ReadProblem.{Reading, head, body}
 use Rattle.ct_problem.proofs.JoinedTexts.{joined_nothing, replaced, nothing_joined, on_first, on_second}
@@ -27,7 +23,7 @@ use Rattle.ct_problem.proofs.SpelledDens.{Goes-den_lines}
 use Rattle.ct_problem.proofs.SpelledLets.{Spells-list_name, Goes-let_lines}
 use Rattle.ct_problem.proofs.SpelledLines.{Goes-header, Goes-past_test}
 use Rattle.ct_problem.proofs.SpelledLists.{Goes-value_lines}
-use Rattle.ct_problem.proofs.SpelledNames.{FewNames, Goes-declarations}
+use Rattle.ct_problem.proofs.SpelledNames.{Goes-declarations}
 use Rattle.ct_problem.proofs.SpelledRuns.{Goes, Goes-pure, Goes-bind, Goes-whole, Goes-begin, Goes-then, Goes-line_end, Goes-fresh_line}
 use Rattle.ct_problem.proofs.SpelledSteps.{test_failed, Coming-taken, Spells-coming, Spells-dots, Spells-number}
 
@@ -40,14 +36,13 @@ module _ (names : Names) where
   Goes-used : Goes (one (Word (codes "use"))) (used names) These
   unfolding used These
   Goes-used =
-      Goes-then (one (Word (codes "use"))) (lets.list names) These (list_name names) _ (Spells-list_name names) (λ at.
-      Goes-bind (one (Word (codes "use")) ▸ lets.list names at) (λ (_ : Unit {0}). one LineEnd) These line_end (λ _. no_more (codes "use") >> pure (Named at)) Goes-line_end (λ _.
-      Goes-past_test (one (Word (codes "use")) ▸ lets.list names at ▸ one LineEnd) These (codes "use") (pure (Named at)) (Goes-pure (one (Word (codes "use")) ▸ lets.list names at ▸ one LineEnd ▸ nothing) These (Named at) (λ ls h. joined_nothing h))))
+      Goes-then _ _ These _ _ (Spells-list_name names) (λ at. Goes-bind _ _ These _ _ Goes-line_end (λ _.
+      Goes-past_test (one (Word (codes "use")) ▸ lets.list names at ▸ one LineEnd) These (codes "use") (pure (Named at)) (Goes-pure _ These (Named at) (λ ls h. joined_nothing h))))
 
   listed_or : (xs : List Expr) → Goes (grammar.values names (codes "gen") xs) (listed_or_used names xs) These
   unfolding These
   listed_or [] =
-      Goes-then (grammar.values names (codes "gen") []) (optional (Word (codes "use"))) These (eat_word (codes "use")) (λ is_used. cond is_used (used names) (pure (Listed []))) (Spells-eat_word (codes "use")) by
+      Goes-then _ _ These _ _ (Spells-eat_word (codes "use")) by
     where
       by : (b : Bool) → Goes (grammar.values names (codes "gen") [] ▸ optional (Word (codes "use")) b) (cond b (used names) (pure (Listed []))) These
       by true i j g e =
@@ -56,12 +51,12 @@ module _ (names : Names) where
         where
           alone : (ls : List Lexeme) → (grammar.values names (codes "gen") [] ▸ one (Word (codes "use"))) ls → one (Word (codes "use")) ls
           alone ls h = nothing_joined {a = one (Word (codes "use"))} (record { front = h.front; back = h.back; parts = h.parts; first = h.first.1; second = h.second })
-      by false i j g e = Goes-pure (grammar.values names (codes "gen") [] ▸ nothing) These (Listed []) (λ ls h. joined_nothing h) i j g e
-  listed_or (x ∷ xs) = Goes-pure (grammar.values names (codes "gen") (x ∷ xs)) These (Listed (x ∷ xs)) (λ ls h. h)
+      by false i j g e = Goes-pure _ These (Listed []) (λ ls h. joined_nothing h) i j g e
+  listed_or (x ∷ xs) = Goes-pure _ These (Listed (x ∷ xs)) (λ ls h. h)
 
   pub Goes-generators : Goes nothing (generators names) (grammar.generators names)
   unfolding generators These
-  Goes-generators = Goes-whole nothing (grammar.values names (codes "gen")) These (value_lines names (codes "gen")) (listed_or_used names) (Goes-value_lines names (codes "gen")) listed_or
+  Goes-generators = Goes-whole _ _ These _ _ (Goes-value_lines names (codes "gen")) listed_or
 
 -- ---- ranges
 
@@ -80,25 +75,23 @@ Spells-high limit low = Spells-coming (High limit low) (λ n. fault_if (nat_lt l
 Spells-range : (limit : ℕ) → Spells (range limit) (grammar.range limit)
 unfolding range High
 Spells-range limit =
-    Spells-bind (number limit) (grammar.range limit) (digits.number limit OutOfRange) _ (Spells-number limit OutOfRange) (λ low.
-    Continues-bind (λ (_ : Unit {0}). one Dots) (grammar.range limit) dots _ Spells-dots (λ _.
-    Continues-bind (High limit low) (grammar.range limit) (high_number limit low) (λ high. pure (record { low = low; high = high })) (Spells-high limit low) (λ high.
+    Spells-bind _ (grammar.range limit) _ _ (Spells-number limit OutOfRange) (λ low. Continues-bind _ (grammar.range limit) _ _ Spells-dots (λ _.
+    Continues-bind _ (grammar.range limit) _ _ (Spells-high limit low) (λ high.
     Continues-pure (grammar.range limit) (record { low = low; high = high }) (λ ls h. record { rising = h.second.0; spelled = replaced h h.second.1 }))))
 
 pub Goes-range_line : (key : List ℕ) (limit : ℕ) → Goes nothing (range_line key limit) (grammar.range_line key limit)
 unfolding range_line
 Goes-range_line key limit =
-    Goes-begin (optional (Word key)) L (eat_word key) (λ is_there. cond is_there (range limit >>= (λ r. line_end >> (no_more key >> pure (Some r)))) (pure None)) (Spells-eat_word key) by
+    Goes-begin _ L _ _ (Spells-eat_word key) by
   where
     L : Option Range → Texts
     L = grammar.range_line key limit
 
     by : (b : Bool) → Goes (optional (Word key) b) (cond b (range limit >>= (λ r. line_end >> (no_more key >> pure (Some r)))) (pure None)) L
     by true =
-        Goes-then (one (Word key)) (grammar.range limit) L (range limit) (λ r. line_end >> (no_more key >> pure (Some r))) (Spells-range limit) (λ r.
-        Goes-bind (one (Word key) ▸ grammar.range limit r) (λ (_ : Unit {0}). one LineEnd) L line_end (λ _. no_more key >> pure (Some r)) Goes-line_end (λ _.
-        Goes-past_test (one (Word key) ▸ grammar.range limit r ▸ one LineEnd) L key (pure (Some r)) (Goes-pure (one (Word key) ▸ grammar.range limit r ▸ one LineEnd ▸ nothing) L (Some r) (λ ls h. joined_nothing h))))
-    by false = Goes-pure nothing L None (λ ls h. h)
+        Goes-then _ _ L _ _ (Spells-range limit) (λ r. Goes-bind _ _ L _ _ Goes-line_end (λ _.
+        Goes-past_test (one (Word key) ▸ grammar.range limit r ▸ one LineEnd) L key (pure (Some r)) (Goes-pure _ L (Some r) (λ ls h. joined_nothing h))))
+    by false = Goes-pure _ L None (λ ls h. h)
 
 -- ---- the lines before the last one
 
@@ -110,11 +103,9 @@ pub record Head (h : List Naming × List Definition) (ls : List Lexeme) : Type 0
 pub Goes-head : Goes nothing head Head
 unfolding head
 Goes-head =
-    Goes-whole nothing (λ (_ : Unit {0}). nothing) Head fresh_line _ Goes-fresh_line (λ _.
-    Goes-whole nothing (λ (_ : Unit {0}). grammar.header (codes "problem")) Head (read.header (codes "problem")) _ (Goes-header (codes "problem")) (λ _.
-    Goes-bind (grammar.header (codes "problem")) FewNames Head declarations _ Goes-declarations (λ variables.
-    Goes-bind (grammar.header (codes "problem") ▸ FewNames variables) (lets.let_lines variables) Head (let_lines variables) (λ definitions. pure (variables, definitions)) (Goes-let_lines variables) (λ definitions.
-    Goes-pure (grammar.header (codes "problem") ▸ FewNames variables ▸ lets.let_lines variables definitions) Head (variables, definitions) (λ ls h. record {
+    Goes-whole _ _ Head _ _ Goes-fresh_line (λ _. Goes-whole _ _ Head _ _ (Goes-header (codes "problem")) (λ _.
+    Goes-bind _ _ Head _ _ Goes-declarations (λ variables. Goes-bind _ _ Head _ _ (Goes-let_lines variables) (λ definitions.
+    Goes-pure _ Head (variables, definitions) (λ ls h. record {
       few = h.first.second.few;
       spelled = on_first (λ ms. on_second (λ ns k. k.spelled)) h;
     })))))
@@ -127,11 +118,9 @@ pub record Before (p : Reading) (ls : List Lexeme) : Type 0 where
 pub Goes-body : (h : List Naming × List Definition) → Goes (Head h) (body h.0 h.1) Before
 unfolding body
 Goes-body h =
-    Goes-bind (Head h) _ Before (generators names) _ (Goes-generators names) (λ gens.
-    Goes-bind _ _ Before (den_lines names) _ (Goes-den_lines names) (λ dens.
-    Goes-bind _ _ Before (value_lines names (codes "target")) _ (Goes-value_lines names (codes "target")) (λ targets.
-    Goes-bind _ _ Before (range_line (codes "order") 8) _ (Goes-range_line (codes "order") 8) (λ orders.
-    Goes-bind _ _ Before (range_line (codes "degree") 12) _ (Goes-range_line (codes "degree") 12) (λ degrees.
+    Goes-bind _ _ Before _ _ (Goes-generators names) (λ gens. Goes-bind _ _ Before _ _ (Goes-den_lines names) (λ dens.
+    Goes-bind _ _ Before _ _ (Goes-value_lines names (codes "target")) (λ targets.
+    Goes-bind _ _ Before _ _ (Goes-range_line (codes "order") 8) (λ orders. Goes-bind _ _ Before _ _ (Goes-range_line (codes "degree") 12) (λ degrees.
     Goes-pure _ Before
     (record { variables = h.0; definitions = h.1; generators = gens; dens = dens; targets = targets; orders = orders; degrees = degrees }) (λ ls k. record {
       few = k.first.first.first.first.first.few;

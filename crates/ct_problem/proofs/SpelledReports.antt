@@ -4,13 +4,10 @@ use Rattle.ct_mono.specs.Limits.{largest_norm}
 use Rattle.ct_expr.specs.declared.expr.Expr.{Expr}
 use Rattle.ct_problem.specs.declared.fault.BadKind.TheVariants.{OutOfRange}
 use Rattle.ct_problem.specs.declared.report.Quotient.{Quotient}
-use Rattle.ct_problem.specs.Input.{pure, expect, expect_word, line_end}
 use Rattle.ct_problem.specs.Number as digits
-use Rattle.ct_problem.specs.Lines as read
 use Rattle.ct_problem.specs.Names.{Names}
 use Rattle.ct_problem.specs.ReportLines as rules
-use Rattle.ct_problem.specs.Lexemes.{Word, Number, Sign, LineEnd, Texts, nothing, one, number, ◌▸◌}
-use Rattle.ct_problem.specs.GrammarProblem.{value}
+use Rattle.ct_problem.specs.Lexemes.{Texts, nothing, number}
 use Rattle.ct_problem.specs.GrammarReport.{part, quotient, cofactor, cofactors, each_with, numbered, found_line}
 use Rattle.ct_problem.proofs.JoinedTexts.{replaced}
 use Rattle.ct_problem.proofs.Spelling.{Spells, Spells-bind, Spells-expect, Spells-expect_word, Continues-last}
@@ -21,7 +18,7 @@ use Rattle.ct_problem.proofs.SpelledSteps.{Spells-number, Spells-exactly}
 
 Spells-numbered : (key : List ℕ) → Spells (rules.numbered key) (numbered key)
 Spells-numbered key =
-    Spells-bind (λ (_ : Unit {0}). one (Word key)) (numbered key) (expect_word key) _ (Spells-expect_word key) (λ _.
+    Spells-bind _ (numbered key) _ _ (Spells-expect_word key) (λ _.
     Continues-last (numbered key) (number 65535) (digits.number 65535 OutOfRange) (Spells-number 65535 OutOfRange) (λ x ls h. h))
 
 abbrev pub Place : ℕ × ℕ × ℕ → Texts
@@ -30,25 +27,23 @@ Place p = found_line p.0 p.1 p.2
 pub Goes-found_line : Goes nothing rules.found_line Place
 unfolding rules.found_line
 Goes-found_line =
-    Goes-begin (numbered (codes "found")) Place (rules.numbered (codes "found")) _ (Spells-numbered (codes "found")) (λ index.
-    Goes-then (numbered (codes "found") index) (numbered (codes "order")) Place (rules.numbered (codes "order")) _ (Spells-numbered (codes "order")) (λ order.
-    Goes-then (numbered (codes "found") index ▸ numbered (codes "order") order) (numbered (codes "degree")) Place (rules.numbered (codes "degree")) _ (Spells-numbered (codes "degree")) (λ degree.
-    Goes-bind (numbered (codes "found") index ▸ numbered (codes "order") order ▸ numbered (codes "degree") degree) (λ (_ : Unit {0}). one LineEnd) Place line_end (λ _. pure (index, order, degree)) Goes-line_end (λ _.
-    Goes-pure (Place (index, order, degree)) Place (index, order, degree) (λ ls h. h)))))
+    Goes-begin _ Place _ _ (Spells-numbered (codes "found")) (λ index. Goes-then _ _ Place _ _ (Spells-numbered (codes "order")) (λ order.
+    Goes-then _ _ Place _ _ (Spells-numbered (codes "degree")) (λ degree. Goes-bind _ _ Place _ _ Goes-line_end (λ _.
+    Goes-pure _ Place (index, order, degree) (λ ls h. h)))))
 
 module _ (names : Names) where
   Goes-quotient : (text : List ℕ) → Goes nothing (rules.quotient names text) (quotient names text)
   unfolding rules.quotient
   Goes-quotient text =
-      Goes-whole nothing (part names (codes "numerator") true text) (quotient names text) (read.part names (codes "numerator") text true) _ (Goes-part names (codes "numerator") text true) (λ numerator.
-      Goes-bind (part names (codes "numerator") true text numerator) (part names (codes "denominator") false text) (quotient names text) (read.part names (codes "denominator") text false) (λ denominator. pure (record { numerator = numerator; denominator = denominator })) (Goes-part names (codes "denominator") text false) (λ denominator.
-      Goes-pure (part names (codes "numerator") true text numerator ▸ part names (codes "denominator") false text denominator) (quotient names text) (record { numerator = numerator; denominator = denominator }) (λ ls h. h)))
+      Goes-whole _ _ (quotient names text) _ _ (Goes-part names (codes "numerator") text true) (λ numerator.
+      Goes-bind _ _ (quotient names text) _ _ (Goes-part names (codes "denominator") text false) (λ denominator.
+      Goes-pure _ (quotient names text) (record { numerator = numerator; denominator = denominator }) (λ ls h. h)))
 
   Goes-quotients_from : (texts : List (List ℕ)) (found : List Quotient) → Goes nothing (rules.quotients_from names texts found) (More (each_with (quotient names) texts) found)
   unfolding rules.quotients_from
   Goes-quotients_from [] found = Goes-found nothing (each_with (quotient names) []) found (λ ls h. h)
   Goes-quotients_from (text ∷ texts) found =
-      Goes-whole nothing (quotient names text) (More (each_with (quotient names) (text ∷ texts)) found) (rules.quotient names text) _ (Goes-quotient text) (λ q.
+      Goes-whole _ _ (More (each_with (quotient names) (text ∷ texts)) found) _ _ (Goes-quotient text) (λ q.
       Goes-one (quotient names text q) (each_with (quotient names) (text ∷ texts)) (each_with (quotient names) texts) found q (rules.quotients_from names texts (found ++ q ∷ [])) (λ xs ls h. h) (Goes-quotients_from texts (found ++ q ∷ [])))
 
   pub Goes-quotients : (texts : List (List ℕ)) → Goes nothing (rules.quotients_from names texts []) (each_with (quotient names) texts)
@@ -58,7 +53,7 @@ module _ (names : Names) where
   unfolding rules.factors_of
   Goes-factors_of [] found = Goes-found nothing (each_with (part names (codes "part") false) []) found (λ ls h. h)
   Goes-factors_of (text ∷ texts) found =
-      Goes-whole nothing (part names (codes "part") false text) (More (each_with (part names (codes "part") false) (text ∷ texts)) found) (read.part names (codes "part") text false) _ (Goes-part names (codes "part") text false) (λ x.
+      Goes-whole _ _ (More (each_with (part names (codes "part") false) (text ∷ texts)) found) _ _ (Goes-part names (codes "part") text false) (λ x.
       Goes-one (part names (codes "part") false text x) (each_with (part names (codes "part") false) (text ∷ texts)) (each_with (part names (codes "part") false) texts) found x (rules.factors_of names texts (found ++ x ∷ [])) (λ xs ls h. h) (Goes-factors_of texts (found ++ x ∷ [])))
 
   pub Goes-factors : (texts : List (List ℕ)) → Goes nothing (rules.factors_of names texts []) (each_with (part names (codes "part") false) texts)
@@ -67,10 +62,9 @@ module _ (names : Names) where
   Goes-cofactor : (place : ℕ) → place ≤ largest_norm → Goes nothing (rules.cofactor names place) (cofactor names place)
   unfolding rules.cofactor
   Goes-cofactor place low =
-      Goes-begin (λ (_ : Unit {0}). one (Word (codes "cofactor"))) (cofactor names place) (expect_word (codes "cofactor")) _ (Spells-expect_word (codes "cofactor")) (λ _.
-      Goes-then (one (Word (codes "cofactor"))) (λ (_ : Unit {0}). one (Number place)) (cofactor names place) (digits.exactly place) _ (Spells-exactly place low) (λ _.
-      Goes-then (one (Word (codes "cofactor")) ▸ one (Number place)) (λ (_ : Unit {0}). one (Sign 58)) (cofactor names place) (expect 58) _ (Spells-expect 58) (λ _.
-      Goes-as (one (Word (codes "cofactor")) ▸ one (Number place) ▸ one (Sign 58)) (cofactor names place) (value names true) (read.value names true) (Goes-value names true) (λ x ls h. h))))
+      Goes-begin _ (cofactor names place) _ _ (Spells-expect_word (codes "cofactor")) (λ _.
+      Goes-then _ _ (cofactor names place) _ _ (Spells-exactly place low) (λ _. Goes-then _ _ (cofactor names place) _ _ (Spells-expect 58) (λ _.
+      Goes-as _ (cofactor names place) _ _ (Goes-value names true) (λ x ls h. h))))
 
   -- so many cofactors, from this number on
   abbrev CofactorsFrom : ℕ → ℕ → List Expr → Texts
@@ -83,7 +77,7 @@ module _ (names : Names) where
   unfolding rules.cofactors_from
   Goes-cofactors_from place zero found low = Goes-found nothing (CofactorsFrom place 0) found (λ ls h. (refl, h))
   Goes-cofactors_from place (suc n) found low =
-      Goes-whole nothing (cofactor names place) (More (CofactorsFrom place (suc n)) found) (rules.cofactor names place) _ (Goes-cofactor place (omega (arith, low))) (λ x.
+      Goes-whole _ _ (More (CofactorsFrom place (suc n)) found) _ _ (Goes-cofactor place (omega (arith, low))) (λ x.
       Goes-one (cofactor names place x) (CofactorsFrom place (suc n)) (CofactorsFrom (place + 1) n) found x (rules.cofactors_from names (place + 1) n (found ++ x ∷ [])) (λ xs ls h. (ap suc h.second.0, replaced h h.second.1))
       (Goes-cofactors_from (place + 1) n (found ++ x ∷ []) (omega (arith, low))))
 

@@ -10,8 +10,8 @@ use Rattle.ct_problem.specs.Input.{Input, Outcome, Parser, ◌>>=◌, pure, eat}
 use Rattle.ct_problem.specs.Input as input
 use Rattle.ct_problem.specs.Number as digits
 use Rattle.ct_problem.specs.Names.{Names}
-use Rattle.ct_problem.specs.Expressions.{product_of, atom, factor, factors_from, term}
-use Rattle.ct_problem.specs.Lexemes.{Lexeme, Sign, Texts, optional, number, ◌▸◌, each}
+use Rattle.ct_problem.specs.Expressions.{product_of, factor, factors_from, term}
+use Rattle.ct_problem.specs.Lexemes.{Lexeme, Sign, Texts, optional, ◌▸◌, each}
 use Rattle.ct_problem.specs.Grammar.{IsAtom, IsFactor, IsTerm, IsMoreFactor}
 use Rattle.ct_problem.proofs.JoinedTexts.{joined_to_left, joined_to_right, joined_nothing, on_second}
 use Rattle.ct_problem.proofs.Spelling.{Spelled, Spells, Continues, Continues-pure, Continues-last, Continues-bind, Spells-fault, Spells-bind, Spells-eat}
@@ -37,12 +37,12 @@ module _ (names : Names) (operators : Bool) where
     Spells-factor : Spells (factor names operators inner) Factor
     unfolding factor
     Spells-factor =
-        Spells-bind Atom Factor (atom names operators inner) _ (Spells-atom names operators inner InParentheses opens) (λ base.
-        Continues-bind (optional (Sign 94)) Factor (eat 94) _ (Spells-eat 94) (λ is_power. by base is_power))
+        Spells-bind _ Factor _ _ (Spells-atom names operators inner InParentheses opens) (λ base.
+        Continues-bind _ Factor _ _ (Spells-eat 94) (λ is_power. by base is_power))
       where
         by : (base : Expr) (is_power : Bool) → Continues (Atom base ▸ optional (Sign 94) is_power) (cond is_power (digits.number largest_degree ExponentTooLarge >>= (λ n. pure (e.Power base n))) (pure base)) Factor
         by base true =
-            Continues-bind (number largest_degree) Factor (digits.number largest_degree ExponentTooLarge) (λ n. pure (e.Power base n)) (Spells-number largest_degree ExponentTooLarge)
+            Continues-bind _ Factor _ _ (Spells-number largest_degree ExponentTooLarge)
             (λ n. Continues-pure Factor (e.Power base n) (λ ls h. IsFactor.power base n refl h))
         by base false = Continues-pure Factor base (λ ls h. IsFactor.plain (joined_nothing h))
 
@@ -57,8 +57,8 @@ module _ (names : Names) (operators : Bool) where
     unfolding factors_from
     Spells-factors zero found = Spells-fault (Product found) Syntax
     Spells-factors (suc n) found =
-        Spells-bind Factor (Product found) (factor names operators inner) _ Spells-factor (λ x.
-        Continues-bind (optional (Sign 42)) (Product found) (eat 42) _ (Spells-eat 42) (λ more. by x (Spells-factors n (found ++ x ∷ [])) more))
+        Spells-bind _ (Product found) _ _ Spells-factor (λ x.
+        Continues-bind _ (Product found) _ _ (Spells-eat 42) (λ more. by x (Spells-factors n (found ++ x ∷ [])) more))
       where
         by : (x : Expr) → Spells (factors_from names operators inner n (found ++ x ∷ [])) (Product (found ++ x ∷ [])) → (more : Bool)
             → Continues (Factor x ▸ optional (Sign 42) more) (cond more (factors_from names operators inner n (found ++ x ∷ [])) (pure (product_of (found ++ x ∷ [])))) (Product found)

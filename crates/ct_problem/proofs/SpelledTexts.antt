@@ -18,13 +18,13 @@ use Rattle.ct_problem.proofs.Following.{Goes_on, Settled, lexemes-append, used-t
 use Rattle.ct_problem.proofs.JoinedTexts.{joined}
 use Rattle.ct_problem.proofs.Spelling.{Spelled}
 use Rattle.ct_problem.proofs.SpelledEnds.{Last, last_is}
-use Rattle.ct_problem.proofs.SpelledProblems.{Head, Before, Goes-head, Goes-body}
+use Rattle.ct_problem.proofs.SpelledProblems.{Before, Goes-head, Goes-body}
 use Rattle.ct_problem.proofs.SpelledRuns.{Goes, Goes-whole}
 use Rattle.ct_problem.proofs.SpelledSteps.{first_read}
 
 -- the lines before the last one
 Goes-lines : Goes nothing (head >>= (λ h. body h.0 h.1)) Before
-Goes-lines = Goes-whole nothing Head Before head (λ h. body h.0 h.1) Goes-head Goes-body
+Goes-lines = Goes-whole _ _ Before _ _ Goes-head Goes-body
 
 -- the tokens of a problem that is read, up to this place
 pub record IsRead (command : Command) (p : Reading) (i : Input) (at : ℕ) : Type 0 where
