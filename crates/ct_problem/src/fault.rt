@@ -14,7 +14,7 @@ pub enum BadKind {
     /// A byte with which no token and no gap begins.
     #[error("BadByte")]
     BadByte,
-    /// The text ends where a token or a line is due.
+    /// The text ends where a token or a line is expected.
     #[error("Unfinished")]
     Unfinished,
     /// A token that can't stand there.
