@@ -1,18 +1,14 @@
 -- Lexemes that stand for the lines of a problem before the last one are read as what they say. Main lemma `Takes-all_lines`.
 use Rattle.std.proofs.Common.{ℕ, List, [], Option, refl, arith, codes}
 use Rattle.ct_ore.specs.Naming.{Naming}
-use Rattle.ct_problem.specs.Declarations.{declarations}
-use Rattle.ct_problem.specs.DenLines.{den_lines}
 use Rattle.ct_problem.specs.GrammarLets as lets
 use Rattle.ct_problem.specs.GrammarProblem as grammar
 use Rattle.ct_problem.specs.GrammarProblem.{AreFew}
-use Rattle.ct_problem.specs.Input.{Parser, ◌>>=◌, pure, fresh_line}
-use Rattle.ct_problem.specs.LetLines.{Definition, let_lines}
+use Rattle.ct_problem.specs.Input.{Parser, ◌>>=◌}
+use Rattle.ct_problem.specs.LetLines.{Definition}
 use Rattle.ct_problem.specs.Lexemes.{Texts, nothing, ◌▸◌}
 use Rattle.ct_problem.specs.Lines.{value_lines}
-use Rattle.ct_problem.specs.Lines as read
 use Rattle.ct_problem.specs.Names.{Names}
-use Rattle.ct_problem.specs.ProblemLines.{generators, range_line}
 use Rattle.ct_problem.specs.ReadProblem.{Reading, head, body}
 use Rattle.ct_problem.proofs.LineStarts.{AfterLines, Leads, fresh_before, leads_join}
 use Rattle.ct_problem.proofs.LineStarts as starts
@@ -21,7 +17,7 @@ use Rattle.ct_problem.proofs.TakenProblemLines.{Takes-generators, leads_generato
 use Rattle.ct_problem.proofs.TakenLets.{Takes-let_lines, leads_lets}
 use Rattle.ct_problem.proofs.TakenLines.{Takes-header}
 use Rattle.ct_problem.proofs.TakenNames.{Takes-declarations}
-use Rattle.ct_problem.proofs.TakenSteps.{IsFresh, Takes-fresh_line}
+use Rattle.ct_problem.proofs.TakenSteps.{Takes-fresh_line}
 use Rattle.ct_problem.proofs.TakenValues.{Takes-values, leads_values}
 use Rattle.ct_problem.proofs.Taking.{Takes, Takes-as, Takes-to_right, Takes-bind, Takes-last}
 
@@ -32,12 +28,11 @@ module _ (bad : Option ℕ) where
       → Takes bad head (variables, definitions) (grammar.header (codes "problem") ▸ grammar.name_lines [] variables ▸ lets.let_lines variables definitions) (AfterLines bad 2)
   unfolding head
   Takes-head variables definitions few =
-      Takes-to_right bad Header Lines Lets (AfterLines bad 2) head h
+      Takes-to_right bad _ _ _ _ _ _
       (Takes-as bad (nothing ▸ (Header ▸ (Lines ▸ Lets))) (Header ▸ (Lines ▸ Lets)) (AfterLines bad 2) (AfterLines bad 2) head h (λ ls m. record { front = []; back = ls; parts = refl; first = refl; second = m }) (λ rest a. a)
-      (Takes-bind bad tt h nothing (Header ▸ (Lines ▸ Lets)) (IsFresh bad) (AfterLines bad 2) fresh_line _ (Takes-fresh_line bad)
-      (Takes-bind bad tt h Header (Lines ▸ Lets) (IsFresh bad) (AfterLines bad 2) (read.header (codes "problem")) _ (Takes-header bad (codes "problem"))
-      (Takes-bind bad variables h Lines Lets (AfterLines bad 1) (AfterLines bad 2) declarations _ (Takes-declarations bad variables few)
-      (Takes-last bad definitions h Lets (AfterLines bad 2) (let_lines variables) (λ ds. pure (variables, ds)) (Takes-let_lines bad variables definitions) (λ k. refl))
+      (Takes-bind bad _ _ _ _ _ _ _ _ (Takes-fresh_line bad) (Takes-bind bad _ _ _ _ _ _ _ _ (Takes-header bad (codes "problem"))
+      (Takes-bind bad _ _ _ _ _ _ _ _ (Takes-declarations bad variables few)
+      (Takes-last bad _ _ _ _ _ _ (Takes-let_lines bad variables definitions) (λ k. refl))
       (leads_lets bad variables definitions))
       (λ back rest m a. fresh_before bad back rest a.fresh))
       (λ back rest m a. fresh_before bad back rest a.fresh)))
@@ -93,19 +88,16 @@ module _ (bad : Option ℕ) where
     Takes-body : Takes bad (body p.variables p.definitions) p (Generators ▸ (Denominators ▸ (Targets ▸ (Orders ▸ Degrees)))) (AfterLines bad 8)
     unfolding body
     Takes-body =
-        Takes-bind bad p.generators p Generators (Denominators ▸ (Targets ▸ (Orders ▸ Degrees))) (AfterLines bad 4) (AfterLines bad 8) (generators names) _ (Takes-generators bad names p.generators)
-        (Takes-bind bad p.dens p Denominators (Targets ▸ (Orders ▸ Degrees)) (AfterLines bad 5) (AfterLines bad 8) (den_lines names) _ (Takes-den_lines bad names p.dens)
-        (Takes-bind bad p.targets p Targets (Orders ▸ Degrees) (AfterLines bad 6) (AfterLines bad 8) (value_lines names (codes "target")) _ Takes-targets
-        (Takes-bind bad p.orders p Orders Degrees (AfterLines bad 7) (AfterLines bad 8) (range_line (codes "order") 8) _ (Takes-range_line bad starts.Order 7 8 (omega arith) (omega arith) p.orders)
-        (Takes-last bad p.degrees p Degrees (AfterLines bad 8) (range_line (codes "degree") 12) (λ degrees. pure (record p { degrees = degrees })) (Takes-range_line bad starts.Degree 8 12 (omega arith) (omega arith) p.degrees) (λ k. refl))
+        Takes-bind bad _ _ _ _ _ _ _ _ (Takes-generators bad names p.generators) (Takes-bind bad _ _ _ _ _ _ _ _ (Takes-den_lines bad names p.dens)
+        (Takes-bind bad _ _ _ _ _ _ _ _ Takes-targets
+        (Takes-bind bad _ _ _ _ _ _ _ _ (Takes-range_line bad starts.Order 7 8 (omega arith) (omega arith) p.orders)
+        (Takes-last bad _ _ _ _ _ _ (Takes-range_line bad starts.Degree 8 12 (omega arith) (omega arith) p.degrees) (λ k. refl))
         leads_degrees) leads_orders) leads_targets) leads_behind_generators
 
     pub Takes-all_lines : AreFew p.variables → Takes bad (head >>= (λ h. body h.0 h.1)) p (grammar.lines p) (AfterLines bad 8)
     Takes-all_lines few =
-        Takes-to_right bad _ _ _ (AfterLines bad 8) all p (Takes-to_right bad _ _ _ (AfterLines bad 8) all p
-        (Takes-to_right bad _ _ _ (AfterLines bad 8) all p (Takes-to_right bad _ _ _ (AfterLines bad 8) all p
-        (Takes-bind bad (p.variables, p.definitions) p (grammar.header (codes "problem") ▸ grammar.name_lines [] p.variables ▸ lets.let_lines p.variables p.definitions) (Generators ▸ (Denominators ▸ (Targets ▸ (Orders ▸ Degrees)))) (AfterLines bad 2) (AfterLines bad 8)
-        head (λ h. body h.0 h.1) (Takes-head p.variables p.definitions few) Takes-body
+        Takes-to_right bad _ _ _ _ _ _ (Takes-to_right bad _ _ _ _ _ _ (Takes-to_right bad _ _ _ _ _ _ (Takes-to_right bad _ _ _ _ _ _
+        (Takes-bind bad _ _ _ _ _ _ _ _ (Takes-head p.variables p.definitions few) Takes-body
         (leads_join bad 2 4 8 Generators (Denominators ▸ (Targets ▸ (Orders ▸ Degrees))) (leads_generators bad names p.generators) leads_behind_generators)))))
       where
         all : Parser Reading

@@ -12,8 +12,7 @@ use Rattle.ct_problem.specs.declared.reading.let_lines.LetWord.{LetWord}
 use Rattle.ct_problem.specs.declared.reading.let_lines.LetWord.TheVariants.{Gens, Plus, Product, Apply}
 use Rattle.ct_problem.specs.declared.reading.names.Known.{Known}
 use Rattle.ct_problem.specs.declared.reading.names.Known.TheVariants.{Let}
-use Rattle.ct_problem.specs.Input.{Input, Parser, ◌>>=◌, ◌>>◌, pure, skip, eat, expect, line_end, sees_word}
-use Rattle.ct_problem.specs.Declarations.{new_name}
+use Rattle.ct_problem.specs.Input.{Input, Parser, ◌>>=◌, pure, eat, sees_word}
 use Rattle.ct_problem.specs.Expressions.{expression}
 use Rattle.ct_problem.specs.LetLines.{Definition, with_definitions, list_by, list_word, list_name, listed_from, two_lists, applied, form_by, let_word, form_of_word, let_form, definition, let_lines, let_lines_from}
 use Rattle.ct_problem.specs.Lexemes.{Lexeme, Word, Sign, LineEnd, Texts, nothing, one, ◌▸◌, each}
@@ -64,15 +63,13 @@ module _ (bad : Option ℕ) (names : Names) where
   unfolding listed_from
   Takes-listed x more found zero enough = let no : ⊥ = omega (arith, enough) in absurd no
   Takes-listed x [] found (suc n) enough =
-      Takes-bind bad x (found ++ x ∷ []) (IsExpression names true x) nothing AfterSum Ends (expression names true) (λ y. eat 59 >>= next_by n found y) (Takes-expression bad names true x)
+      Takes-bind bad _ _ _ _ _ _ _ _ (Takes-expression bad names true x)
       (Takes-as bad nothing nothing (λ rest. shows_sign 59 rest ≡ false) Ends (eat 59 >>= next_by n found x) (found ++ x ∷ []) (λ ls h. h) (λ rest a. ap (shows_sign 59) a.1)
-      (Takes-last bad false (found ++ x ∷ []) nothing (λ rest. shows_sign 59 rest ≡ false) (eat 59) (next_by n found x) (Takes-no_sign bad 59) (λ k. refl)))
+      (Takes-last bad _ _ _ _ _ _ (Takes-no_sign bad 59) (λ k. refl)))
       (λ back rest none a. subst (λ (ls : List Lexeme). AfterSum (ls ++ rest)) (sym none) (ends_sum rest a))
   Takes-listed x (y ∷ more) found (suc n) enough =
-      Takes-value bad (IsExpression names true x ▸ each (lets.more_listed names) (y ∷ more)) Ends (listed_from names (suc n) found) ((found ++ x ∷ []) ++ y ∷ more) (found ++ x ∷ y ∷ more) (append_assoc found (x ∷ []) (y ∷ more))
-      (Takes-bind bad x ((found ++ x ∷ []) ++ y ∷ more) (IsExpression names true x) (each (lets.more_listed names) (y ∷ more)) AfterSum Ends (expression names true) (λ z. eat 59 >>= next_by n found z) (Takes-expression bad names true x)
-      (Takes-to_right bad _ _ _ Ends (eat 59 >>= next_by n found x) ((found ++ x ∷ []) ++ y ∷ more)
-      (Takes-then bad true ((found ++ x ∷ []) ++ y ∷ more) (one (Sign 59)) (IsExpression names true y ▸ each (lets.more_listed names) more) Ends (eat 59) (next_by n found x) (Takes-eat bad 59)
+      Takes-value bad _ _ _ _ _ (append_assoc found (x ∷ []) (y ∷ more)) (Takes-bind bad _ _ _ _ _ _ _ _ (Takes-expression bad names true x)
+      (Takes-to_right bad _ _ _ _ _ _ (Takes-then bad _ _ _ _ _ _ _ (Takes-eat bad 59)
       (Takes-listed y more (found ++ x ∷ []) n (omega (arith, enough)))))
       (λ back rest h a. semicolon back rest h))
     where
@@ -84,16 +81,14 @@ module _ (bad : Option ℕ) (names : Names) where
   Takes-two_lists : (a b : ℕ) → Takes bad (two_lists names) (a, b) (lets.list names a ▸ lets.list names b) anywhere
   unfolding two_lists
   Takes-two_lists a b =
-      Takes-then bad a (a, b) (lets.list names a) (lets.list names b) anywhere (list_name names) (λ x. list_name names >>= (λ y. pure (x, y))) (Takes-list_name a)
-      (Takes-last bad b (a, b) (lets.list names b) anywhere (list_name names) (λ y. pure (a, y)) (Takes-list_name b) (λ k. refl))
+      Takes-then bad _ _ _ _ _ _ _ (Takes-list_name a) (Takes-last bad _ _ _ _ _ _ (Takes-list_name b) (λ k. refl))
 
   Takes-applied : (a : ℕ) (x : Expr) → Takes bad (applied names) (form.Apply a x) (lets.list names a ▸ (one (Sign 58) ▸ IsExpression names true x)) Ends
   unfolding applied
   Takes-applied a x =
-      Takes-then bad a (form.Apply a x) (lets.list names a) (one (Sign 58) ▸ IsExpression names true x) Ends (list_name names) (λ at. expect 58 >> (expression names true >>= (λ y. pure (form.Apply at y)))) (Takes-list_name a)
-      (Takes-next bad tt (form.Apply a x) (one (Sign 58)) (IsExpression names true x) Ends (expect 58) (expression names true >>= (λ y. pure (form.Apply a y))) (Takes-expect bad 58)
+      Takes-then bad _ _ _ _ _ _ _ (Takes-list_name a) (Takes-next bad _ _ _ _ _ _ _ (Takes-expect bad 58)
       (Takes-as bad (IsExpression names true x) (IsExpression names true x) AfterSum Ends (expression names true >>= (λ y. pure (form.Apply a y))) (form.Apply a x) (λ ls h. h) ends_sum
-      (Takes-last bad x (form.Apply a x) (IsExpression names true x) AfterSum (expression names true) (λ y. pure (form.Apply a y)) (Takes-expression bad names true x) (λ k. refl))))
+      (Takes-last bad _ _ _ _ _ _ (Takes-expression bad names true x) (λ k. refl))))
 
   -- what stands behind each word
   key_of : LetWord → List ℕ
@@ -123,7 +118,7 @@ module _ (bad : Option ℕ) (names : Names) where
   unfolding let_form
   after_word word f M takes i used rest here e h after =
       let head : shown i ≡ Word (key_of word) ∷ (h.back ++ rest) = e ∙ ap (λ ls. ls ++ rest) (h.parts ∙ ap (λ ls. ls ++ h.back) h.first) in
-      let t = Takes-next bad tt f (one (Word (key_of word))) M Ends skip (form_by names word) (Takes-skip bad (Word (key_of word)) refl) takes i used rest here e h after in
+      let t = Takes-next bad _ _ _ _ _ _ _ (Takes-skip bad (Word (key_of word)) refl) takes i used rest here e h after in
       record { left = t.left; reads = ap (λ (o : Option LetWord). form_of_word names o i) (let_with word i (h.back ++ rest) head) ∙ t.reads; shows = t.shows; follows = t.follows }
 
   Takes-let_form : (f : LetForm) → Takes bad (let_form names) f (lets.let_form names f) Ends
@@ -131,28 +126,26 @@ module _ (bad : Option ℕ) (names : Names) where
   Takes-let_form (form.Gens []) = λ i used rest here e u after. absurd u.1.second
   Takes-let_form (form.Gens (x ∷ more)) = λ i used rest here e u after.
       after_word Gens (form.Gens (x ∷ more)) (IsExpression names true x ▸ each (lets.more_listed names) more)
-      (Takes-last bad (x ∷ more) (form.Gens (x ∷ more)) (IsExpression names true x ▸ each (lets.more_listed names) more) Ends (listed_from names 16 []) (λ xs. pure (form.Gens xs)) (Takes-listed x more [] 16 u.0) (λ k. refl)) i used rest here e u.1 after
+      (Takes-last bad _ _ _ _ _ _ (Takes-listed x more [] 16 u.0) (λ k. refl)) i used rest here e u.1 after
   Takes-let_form (form.Plus a b) =
-      Takes-to_right bad _ _ _ Ends (let_form names) (form.Plus a b)
+      Takes-to_right bad _ _ _ _ _ _
       (after_word Plus (form.Plus a b) (lets.list names a ▸ lets.list names b)
       (Takes-as bad (lets.list names a ▸ lets.list names b) (lets.list names a ▸ lets.list names b) anywhere Ends (form_by names Plus) (form.Plus a b) (λ ls h. h) (λ rest h. tt)
-      (Takes-last bad (a, b) (form.Plus a b) (lets.list names a ▸ lets.list names b) anywhere (two_lists names) (λ p. pure (form.Plus p.0 p.1)) (Takes-two_lists a b) (λ k. refl))))
+      (Takes-last bad _ _ _ _ _ _ (Takes-two_lists a b) (λ k. refl))))
   Takes-let_form (form.Product a b) =
-      Takes-to_right bad _ _ _ Ends (let_form names) (form.Product a b)
+      Takes-to_right bad _ _ _ _ _ _
       (after_word Product (form.Product a b) (lets.list names a ▸ lets.list names b)
       (Takes-as bad (lets.list names a ▸ lets.list names b) (lets.list names a ▸ lets.list names b) anywhere Ends (form_by names Product) (form.Product a b) (λ ls h. h) (λ rest h. tt)
-      (Takes-last bad (a, b) (form.Product a b) (lets.list names a ▸ lets.list names b) anywhere (two_lists names) (λ p. pure (form.Product p.0 p.1)) (Takes-two_lists a b) (λ k. refl))))
+      (Takes-last bad _ _ _ _ _ _ (Takes-two_lists a b) (λ k. refl))))
   Takes-let_form (form.Apply a x) =
-      Takes-to_right bad _ _ _ Ends (let_form names) (form.Apply a x) (Takes-to_right bad _ _ _ Ends (let_form names) (form.Apply a x)
+      Takes-to_right bad _ _ _ _ _ _ (Takes-to_right bad _ _ _ _ _ _
       (after_word Apply (form.Apply a x) (lets.list names a ▸ (one (Sign 58) ▸ IsExpression names true x)) (Takes-applied a x)))
 
   Takes-definition : (d : Definition) → Takes bad (definition names) d (lets.declared names d.text ▸ (one (Sign 61) ▸ (lets.let_form names d.form ▸ one LineEnd))) (IsFresh bad)
   unfolding definition
   Takes-definition d =
-      Takes-then bad d.text d (lets.declared names d.text) (one (Sign 61) ▸ (lets.let_form names d.form ▸ one LineEnd)) (IsFresh bad) (new_name names) (λ text. expect 61 >> (let_form names >>= (λ f. line_end >> pure (record { text = text; form = f })))) (Takes-new_name bad names d.text)
-      (Takes-next bad tt d (one (Sign 61)) (lets.let_form names d.form ▸ one LineEnd) (IsFresh bad) (expect 61) (let_form names >>= (λ f. line_end >> pure (record { text = d.text; form = f }))) (Takes-expect bad 61)
-      (Takes-bind bad d.form d (lets.let_form names d.form) (one LineEnd) Ends (IsFresh bad) (let_form names) (λ f. line_end >> pure (record { text = d.text; form = f })) (Takes-let_form d.form)
-      (Takes-last bad tt d (one LineEnd) (IsFresh bad) line_end (λ _. pure d) (Takes-line_end bad) (λ k. refl))
+      Takes-then bad _ _ _ _ _ _ _ (Takes-new_name bad names d.text) (Takes-next bad _ _ _ _ _ _ _ (Takes-expect bad 61)
+      (Takes-bind bad _ _ _ _ _ _ _ _ (Takes-let_form d.form) (Takes-last bad _ _ _ _ _ _ (Takes-line_end bad) (λ k. refl))
       (λ back rest u a. (rest, ap (λ ls. ls ++ rest) u))))
 
 -- ---- lines

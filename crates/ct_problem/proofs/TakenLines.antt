@@ -1,14 +1,10 @@
 -- Lexemes that stand for a line are read as what they stand for.
 use Rattle.std.proofs.Common.{ℕ, Bool, Option, List, ◌++◌, refl, sym, subst, arith, codes}
 use Rattle.ct_expr.specs.declared.expr.Expr.{Expr}
-use Rattle.ct_problem.specs.Input.{◌>>◌, pure, expect, expect_word, line_end}
-use Rattle.ct_problem.specs.Number as digits
-use Rattle.ct_problem.specs.Expressions.{expression}
 use Rattle.ct_problem.specs.Lines as read
 use Rattle.ct_problem.specs.Names.{Names}
 use Rattle.ct_problem.specs.ReportLines as rules
-use Rattle.ct_problem.specs.Lexemes.{Lexeme, Word, Number, Sign, LineEnd, one, ◌▸◌}
-use Rattle.ct_problem.specs.Grammar.{IsExpression}
+use Rattle.ct_problem.specs.Lexemes.{Lexeme, LineEnd, one}
 use Rattle.ct_problem.specs.GrammarProblem.{header, value, keyed}
 use Rattle.ct_problem.specs.GrammarReport.{part}
 use Rattle.ct_problem.proofs.LexemeStarts.{AfterSum}
@@ -20,11 +16,9 @@ module _ (bad : Option ℕ) where
   pub Takes-header : (kind : List ℕ) → Takes bad (read.header kind) tt (header kind) (IsFresh bad)
   unfolding read.header
   Takes-header kind =
-      Takes-to_right bad _ _ _ (IsFresh bad) (read.header kind) tt
-      (Takes-to_right bad _ _ _ (IsFresh bad) (read.header kind) tt
-      (Takes-next bad tt tt (one (Word (codes "mgfun"))) (one (Word kind) ▸ (one (Number 1) ▸ one LineEnd)) (IsFresh bad) (expect_word (codes "mgfun")) _ (Takes-expect_word bad (codes "mgfun"))
-      (Takes-next bad tt tt (one (Word kind)) (one (Number 1) ▸ one LineEnd) (IsFresh bad) (expect_word kind) _ (Takes-expect_word bad kind)
-      (Takes-next bad tt tt (one (Number 1)) (one LineEnd) (IsFresh bad) (digits.exactly 1) _ (Takes-exactly bad 1 (omega arith)) (Takes-line_end bad)))))
+      Takes-to_right bad _ _ _ _ _ _ (Takes-to_right bad _ _ _ _ _ _ (Takes-next bad _ _ _ _ _ _ _ (Takes-expect_word bad (codes "mgfun"))
+      (Takes-next bad _ _ _ _ _ _ _ (Takes-expect_word bad kind)
+      (Takes-next bad _ _ _ _ _ _ _ (Takes-exactly bad 1 (omega arith)) (Takes-line_end bad)))))
 
   -- the end of a line ends a sum
   line_ends_sum : (back rest : List Lexeme) → one LineEnd back → IsFresh bad rest → AfterSum (back ++ rest)
@@ -34,18 +28,16 @@ module _ (bad : Option ℕ) where
     pub Takes-value_line : (operators : Bool) (x : Expr) → Takes bad (read.value names operators) x (value names operators x) (IsFresh bad)
     unfolding read.value
     Takes-value_line operators x =
-        Takes-bind bad x x (IsExpression names operators x) (one LineEnd) AfterSum (IsFresh bad) (expression names operators) (λ y. line_end >> pure y) (Takes-expression bad names operators x)
-        (Takes-last bad tt x (one LineEnd) (IsFresh bad) line_end (λ _. pure x) (Takes-line_end bad) (λ k. refl)) line_ends_sum
+        Takes-bind bad _ _ _ _ _ _ _ _ (Takes-expression bad names operators x)
+        (Takes-last bad _ _ _ _ _ _ (Takes-line_end bad) (λ k. refl)) line_ends_sum
 
     pub Takes-keyed : (key : List ℕ) (operators : Bool) (x : Expr) → Takes bad (rules.keyed names key operators) x (keyed names key operators x) (IsFresh bad)
     unfolding rules.keyed
-    Takes-keyed key operators x = Takes-next bad tt x (one (Word key)) (value names operators x) (IsFresh bad) (expect_word key) _ (Takes-expect_word bad key) (Takes-value_line operators x)
+    Takes-keyed key operators x = Takes-next bad _ _ _ _ _ _ _ (Takes-expect_word bad key) (Takes-value_line operators x)
 
     pub Takes-part : (key text : List ℕ) (operators : Bool) (x : Expr) → Takes bad (read.part names key text operators) x (part names key operators text x) (IsFresh bad)
     unfolding read.part
     Takes-part key text operators x =
-        Takes-to_right bad _ _ _ (IsFresh bad) (read.part names key text operators) x
-        (Takes-to_right bad _ _ _ (IsFresh bad) (read.part names key text operators) x
-        (Takes-next bad tt x (one (Word key)) (one (Word text) ▸ (one (Sign 58) ▸ value names operators x)) (IsFresh bad) (expect_word key) _ (Takes-expect_word bad key)
-        (Takes-next bad tt x (one (Word text)) (one (Sign 58) ▸ value names operators x) (IsFresh bad) (expect_word text) _ (Takes-expect_word bad text)
-        (Takes-next bad tt x (one (Sign 58)) (value names operators x) (IsFresh bad) (expect 58) _ (Takes-expect bad 58) (Takes-value_line operators x)))))
+        Takes-to_right bad _ _ _ _ _ _ (Takes-to_right bad _ _ _ _ _ _ (Takes-next bad _ _ _ _ _ _ _ (Takes-expect_word bad key)
+        (Takes-next bad _ _ _ _ _ _ _ (Takes-expect_word bad text)
+        (Takes-next bad _ _ _ _ _ _ _ (Takes-expect bad 58) (Takes-value_line operators x)))))

@@ -1,5 +1,5 @@
 -- Lexemes that stand for the lines of names are read as those names. Main lemma `Takes-declarations`.
-use Rattle.std.proofs.Common.{◌≡◌, ℕ, zero, suc, ◌<◌, ◌≤◌, not, nat_lt, Bool, true, false, cond, List, [], ◌∷◌, ◌++◌, length, Option, Some, None, Ok, refl, sym, ap, ◌∙◌, subst, arith, codes}
+use Rattle.std.proofs.Common.{◌≡◌, ℕ, zero, suc, ◌<◌, ◌≤◌, not, nat_lt, Bool, false, cond, List, [], ◌∷◌, ◌++◌, length, Option, Some, None, Ok, refl, sym, ap, ◌∙◌, subst, arith, codes}
 use Rattle.std.specs.Str.{bytes_eq}
 use Rattle.std.proofs.lemmas.List.{append_assoc, append-nil}
 use Rattle.ct_token.specs.declared.token.Symbol.{Symbol}
@@ -7,7 +7,7 @@ use Rattle.ct_algebra.specs.Actions.{Action, Shift, Derive, Still}
 use Rattle.ct_ore.specs.Naming.{Naming}
 use Rattle.ct_ore.specs.declared.algebra.Role.{Role}
 use Rattle.ct_ore.specs.declared.algebra.Role.TheVariants as role
-use Rattle.ct_problem.specs.declared.fault.BadKind.TheVariants.{TooMany, NameTooLong, DuplicateName}
+use Rattle.ct_problem.specs.declared.fault.BadKind.TheVariants.{NameTooLong, DuplicateName}
 use Rattle.ct_problem.specs.declared.reading.declarations.NameLine.{NameLine}
 use Rattle.ct_problem.specs.declared.reading.declarations.NameLine.TheVariants.{Free, Sum, Int, Param}
 use Rattle.ct_problem.specs.Input.{Input, Outcome, Parser, ◌>>=◌, ◌>>◌, and_then, pure, peek, skip, eat_word, expect_word, line_end, sees_word}
@@ -66,9 +66,9 @@ module _ (bad : Option ℕ) where
   unfolding new_name
   Takes-new_name names text i used rest here e u after =
       let head = headed bad i used rest (Word text) e u.1 in
-      let t = Takes-fault_if bad text (one (Word text)) anywhere (nat_lt 32 (length text)) NameTooLong (old_by text) (le-ltb 32 (length text) u.0.short)
-      (Takes-fault_if bad text (one (Word text)) anywhere (not (is_new text names)) DuplicateName (skip >> pure text) (ap not u.0.other)
-      (Takes-last bad tt text (one (Word text)) anywhere skip (λ _. pure text) (Takes-skip bad (Word text) refl) (λ k. refl))) i used rest here e u.1 tt in
+      let t = Takes-fault_if bad _ _ _ _ _ _ (le-ltb 32 (length text) u.0.short)
+      (Takes-fault_if bad _ _ _ _ _ _ (ap not u.0.other)
+      (Takes-last bad _ _ _ _ _ (λ _. pure text) (Takes-skip bad (Word text) refl) (λ k. refl))) i used rest here e u.1 tt in
       record { left = t.left; reads = ap (λ o. and_then o (λ v. fault_if (nat_lt 32 (length v)) NameTooLong >> old_by v)) (name_read i rest text head) ∙ t.reads; shows = t.shows; follows = t.follows }
     where
       old_by : List ℕ → Parser (List ℕ)
@@ -78,13 +78,13 @@ module _ (bad : Option ℕ) where
 
   Takes-shift : Takes bad free_action Shift (one (Word (codes "shift"))) anywhere
   unfolding free_action
-  Takes-shift = Takes-last bad true Shift (one (Word (codes "shift"))) anywhere (eat_word (codes "shift")) (λ b. cond b (pure Shift) (expect_word (codes "diff") >> pure Derive)) (Takes-eat_word bad (codes "shift")) (λ k. refl)
+  Takes-shift = Takes-last bad _ _ _ _ _ _ (Takes-eat_word bad (codes "shift")) (λ k. refl)
 
   Takes-diff : Takes bad free_action Derive (one (Word (codes "diff"))) anywhere
   unfolding free_action
   Takes-diff i used rest here e u after =
       let no_shift = Takes-no_word bad (codes "shift") i [] (used ++ rest) here e refl (ap (λ ls. shows_word (codes "shift") (ls ++ rest)) u) in
-      let diff = Takes-last bad tt Derive (one (Word (codes "diff"))) anywhere (expect_word (codes "diff")) (λ _. pure Derive) (Takes-expect_word bad (codes "diff")) (λ k. refl) no_shift.left used rest (no_shift.follows.same_bad ∙ here) no_shift.shows u tt in
+      let diff = Takes-last bad _ _ _ _ _ _ (Takes-expect_word bad (codes "diff")) (λ k. refl) no_shift.left used rest (no_shift.follows.same_bad ∙ here) no_shift.shows u tt in
       Taken-bind bad (eat_word (codes "shift")) (λ is_shift. cond is_shift (pure Shift) (expect_word (codes "diff") >> pure Derive)) i false Derive (used ++ rest) rest no_shift diff
 
   -- ---- a name line
@@ -101,29 +101,28 @@ module _ (bad : Option ℕ) where
     after_text line t = action_of_line line >>= (λ action. line_end >> pure (record { text = t; action = action; role = role_of_line line }))
 
     Takes-end : (n : Naming) → Takes bad (line_end >> pure n) n (one LineEnd) (IsFresh bad)
-    Takes-end n = Takes-last bad tt n (one LineEnd) (IsFresh bad) line_end (λ _. pure n) (Takes-line_end bad) (λ k. refl)
+    Takes-end n = Takes-last bad _ _ _ _ _ _ (Takes-line_end bad) (λ k. refl)
 
     line_taken : (line : NameLine) (word : List ℕ) (n : Naming) (M : Texts) → is_full line found ≡ false → Takes bad (after_text line text) n M (IsFresh bad)
         → Takes bad (declaration line found) n (one (Word word) ▸ (lets.declared (declared found) text ▸ M)) (IsFresh bad)
     unfolding declaration
     line_taken line word n M room takes =
-        Takes-fault_if bad n (one (Word word) ▸ (lets.declared (declared found) text ▸ M)) (IsFresh bad) (is_full line found) TooMany (skip >> (new_name (declared found) >>= after_text line)) room
-        (Takes-next bad tt n (one (Word word)) (lets.declared (declared found) text ▸ M) (IsFresh bad) skip _ (Takes-skip bad (Word word) refl)
-        (Takes-then bad text n (lets.declared (declared found) text) M (IsFresh bad) (new_name (declared found)) (after_text line) (Takes-new_name (declared found) text) takes))
+        Takes-fault_if bad _ _ _ _ _ _ room (Takes-next bad _ _ _ _ _ _ _ (Takes-skip bad (Word word) refl)
+        (Takes-then bad _ _ _ _ _ _ _ (Takes-new_name (declared found) text) takes))
 
     free_line : (word : List ℕ) (action : Action) → is_full Free found ≡ false → Takes bad free_action action (one (Word word)) anywhere
         → Takes bad (declaration Free found) (record { text = text; action = action; role = role.Free }) (one (Word (codes "free")) ▸ lets.declared (declared found) text ▸ one (Word word) ▸ one LineEnd) (IsFresh bad)
     free_line word action room takes =
-        Takes-to_right bad _ _ _ (IsFresh bad) (declaration Free found) n (Takes-to_right bad _ _ _ (IsFresh bad) (declaration Free found) n
+        Takes-to_right bad _ _ _ _ _ _ (Takes-to_right bad _ _ _ _ _ _
         (line_taken Free (codes "free") n (one (Word word) ▸ one LineEnd) room
-        (Takes-then bad action n (one (Word word)) (one LineEnd) (IsFresh bad) free_action (λ a. line_end >> pure (record { text = text; action = a; role = role.Free })) takes (Takes-end n))))
+        (Takes-then bad _ _ _ _ _ _ _ takes (Takes-end n))))
       where
         n : Naming
         n = record { text = text; action = action; role = role.Free }
 
     short_line : (line : NameLine) (word : List ℕ) (n : Naming) → is_full line found ≡ false → Takes bad (after_text line text) n (one LineEnd) (IsFresh bad)
         → Takes bad (declaration line found) n (one (Word word) ▸ lets.declared (declared found) text ▸ one LineEnd) (IsFresh bad)
-    short_line line word n room takes = Takes-to_right bad _ _ _ (IsFresh bad) (declaration line found) n (line_taken line word n (one LineEnd) room takes)
+    short_line line word n room takes = Takes-to_right bad _ _ _ _ _ _ (line_taken line word n (one LineEnd) room takes)
 
     -- the first word of a line, which four parts or three make
     word_of_four : (word : List ℕ) (b c d : Texts) (i : Input) (used rest : List Lexeme) → shown i ≡ used ++ rest → (one (Word word) ▸ b ▸ c ▸ d) used → (back : List Lexeme) × (shown i ≡ Word word ∷ back)
@@ -195,4 +194,4 @@ module _ (bad : Option ℕ) where
   unfolding declarations
   Takes-declarations ns few =
       let summed = few.few_summed in
-      Takes-last bad ns ns (grammar.name_lines [] ns) (AfterLines bad 1) (declarations_from 6 []) some_names (Takes-lines ns [] 6 few.few (few_rooms [] ns (record { operators = few.few_operators; summed = omega (arith, summed_count ns, summed) }))) (some_read ns few.some)
+      Takes-last bad _ _ _ _ _ _ (Takes-lines ns [] 6 few.few (few_rooms [] ns (record { operators = few.few_operators; summed = omega (arith, summed_count ns, summed) }))) (some_read ns few.some)

@@ -1,5 +1,5 @@
 -- Lexemes that stand for a report are read as that report. Main lemma `Takes-report`, line by line.
-use Rattle.std.proofs.Common.{◌≡◌, ℕ, suc, ◌+◌, ◌<◌, ◌≤◌, true, false, None, List, [], ◌∷◌, ◌++◌, length, refl, sym, ap, ◌∙◌, arith, codes}
+use Rattle.std.proofs.Common.{◌≡◌, ℕ, ◌+◌, ◌<◌, ◌≤◌, true, false, None, List, [], ◌∷◌, ◌++◌, length, refl, sym, ap, ◌∙◌, arith, codes}
 use Rattle.std.proofs.lemmas.List.{append_assoc, append-nil}
 use Rattle.ct_token.specs.declared.token.Token.{Token}
 use Rattle.ct_mono.specs.Limits.{largest_norm}
@@ -8,13 +8,10 @@ use Rattle.ct_problem.specs.declared.fault.BadKind.TheVariants.{OutOfRange}
 use Rattle.ct_expr.specs.declared.expr.Expr.{Expr}
 use Rattle.ct_problem.specs.declared.report.Quotient.{Quotient}
 use Rattle.ct_problem.specs.declared.report.Report.{Report}
-use Rattle.ct_problem.specs.Input.{Input, Parser, ◌>>=◌, ◌>>◌, pure, expect, expect_word, line_end}
-use Rattle.ct_problem.specs.Number as digits
-use Rattle.ct_problem.specs.Lines as read
+use Rattle.ct_problem.specs.Input.{Input, Parser, ◌>>◌, line_end}
 use Rattle.ct_problem.specs.ReportLines as rules
-use Rattle.ct_problem.specs.Lexemes.{Word, Number, Sign, LineEnd, nothing, one, number, ◌▸◌, lexemes}
+use Rattle.ct_problem.specs.Lexemes.{LineEnd, nothing, one, ◌▸◌, lexemes}
 use Rattle.ct_problem.specs.Declarations.{declared}
-use Rattle.ct_problem.specs.GrammarProblem.{header, value, keyed}
 use Rattle.ct_problem.specs.GrammarReport.{last_line, part, quotient, cofactor, cofactors, each_with, numbered, found_line}
 use Rattle.ct_problem.specs.GrammarReport as grammar
 use Rattle.ct_problem.specs.Names.{Names, summed_texts}
@@ -27,64 +24,51 @@ use Rattle.ct_problem.proofs.TakenLines.{Takes-header, Takes-value_line, Takes-k
 
 module _ (names : Names) where
   Takes-numbered : (key : List ℕ) (n : ℕ) → Takes None (rules.numbered key) n (numbered key n) anywhere
-  Takes-numbered key n = Takes-next None tt n (one (Word key)) (number 65535 n) anywhere (expect_word key) _ (Takes-expect_word None key) (Takes-number None 65535 n OutOfRange (omega arith))
+  Takes-numbered key n = Takes-next None _ _ _ _ _ _ _ (Takes-expect_word None key) (Takes-number None 65535 n OutOfRange (omega arith))
 
   Takes-found_line : (index order degree : ℕ) → Takes None rules.found_line (index, order, degree) (found_line index order degree) anywhere
   unfolding rules.found_line
   Takes-found_line index order degree =
-      Takes-to_right None _ _ _ anywhere rules.found_line (index, order, degree)
-      (Takes-to_right None _ _ _ anywhere rules.found_line (index, order, degree)
-      (Takes-then None index (index, order, degree) (numbered (codes "found") index) (numbered (codes "order") order ▸ (numbered (codes "degree") degree ▸ one LineEnd)) anywhere (rules.numbered (codes "found"))
-      (λ i. rules.numbered (codes "order") >>= (λ r. rules.numbered (codes "degree") >>= (λ t. line_end >> pure (i, r, t)))) (Takes-numbered (codes "found") index)
-      (Takes-then None order (index, order, degree) (numbered (codes "order") order) (numbered (codes "degree") degree ▸ one LineEnd) anywhere (rules.numbered (codes "order"))
-      (λ r. rules.numbered (codes "degree") >>= (λ t. line_end >> pure (index, r, t))) (Takes-numbered (codes "order") order)
-      (Takes-then None degree (index, order, degree) (numbered (codes "degree") degree) (one LineEnd) anywhere (rules.numbered (codes "degree"))
-      (λ t. line_end >> pure (index, order, t)) (Takes-numbered (codes "degree") degree)
-      (Takes-last None tt (index, order, degree) (one LineEnd) anywhere line_end (λ _. pure (index, order, degree)) (Takes-line_end None) (λ k. refl))))))
+      Takes-to_right None _ _ _ _ _ _ (Takes-to_right None _ _ _ _ _ _ (Takes-then None _ _ _ _ _ _ _ (Takes-numbered (codes "found") index)
+      (Takes-then None _ _ _ _ _ _ _ (Takes-numbered (codes "order") order) (Takes-then None _ _ _ _ _ _ _ (Takes-numbered (codes "degree") degree)
+      (Takes-last None _ _ _ _ _ _ (Takes-line_end None) (λ k. refl))))))
 
   Takes-quotient : (text : List ℕ) (q : Quotient) → Takes None (rules.quotient names text) q (quotient names text q) anywhere
   unfolding rules.quotient
   Takes-quotient text q =
-      Takes-then None q.numerator q (part names (codes "numerator") true text q.numerator) (part names (codes "denominator") false text q.denominator) anywhere (read.part names (codes "numerator") text true)
-      (λ n. read.part names (codes "denominator") text false >>= (λ d. pure (record { numerator = n; denominator = d }))) (Takes-part None names (codes "numerator") text true q.numerator)
-      (Takes-last None q.denominator q (part names (codes "denominator") false text q.denominator) anywhere (read.part names (codes "denominator") text false) (λ d. pure (record { numerator = q.numerator; denominator = d }))
+      Takes-then None _ _ _ _ _ _ _ (Takes-part None names (codes "numerator") text true q.numerator) (Takes-last None _ _ _ _ _ _
       (Takes-part None names (codes "denominator") text false q.denominator) (λ k. refl))
 
   Takes-quotients : (texts : List (List ℕ)) (more found : List Quotient) → Takes None (rules.quotients_from names texts found) (found ++ more) (each_with (quotient names) texts more) anywhere
   unfolding rules.quotients_from
-  Takes-quotients [] [] found = Takes-value None nothing anywhere (pure found) found (found ++ []) (sym (append-nil found)) (Takes-pure None found anywhere)
+  Takes-quotients [] [] found = Takes-value None _ _ _ _ _ (sym (append-nil found)) (Takes-pure None found anywhere)
   Takes-quotients [] (q ∷ more) found = λ i used rest here e u after. absurd u
   Takes-quotients (text ∷ texts) [] found = λ i used rest here e u after. absurd u
   Takes-quotients (text ∷ texts) (q ∷ more) found =
-      Takes-value None (quotient names text q ▸ each_with (quotient names) texts more) anywhere (rules.quotients_from names (text ∷ texts) found) ((found ++ q ∷ []) ++ more) (found ++ q ∷ more) (append_assoc found (q ∷ []) more)
-      (Takes-then None q ((found ++ q ∷ []) ++ more) (quotient names text q) (each_with (quotient names) texts more) anywhere (rules.quotient names text) (λ r. rules.quotients_from names texts (found ++ r ∷ [])) (Takes-quotient text q)
+      Takes-value None _ _ _ _ _ (append_assoc found (q ∷ []) more) (Takes-then None _ _ _ _ _ _ _ (Takes-quotient text q)
       (Takes-quotients texts more (found ++ q ∷ [])))
 
   Takes-factors_of : (texts : List (List ℕ)) (more found : List Expr) → Takes None (rules.factors_of names texts found) (found ++ more) (each_with (part names (codes "part") false) texts more) anywhere
   unfolding rules.factors_of
-  Takes-factors_of [] [] found = Takes-value None nothing anywhere (pure found) found (found ++ []) (sym (append-nil found)) (Takes-pure None found anywhere)
+  Takes-factors_of [] [] found = Takes-value None _ _ _ _ _ (sym (append-nil found)) (Takes-pure None found anywhere)
   Takes-factors_of [] (x ∷ more) found = λ i used rest here e u after. absurd u
   Takes-factors_of (text ∷ texts) [] found = λ i used rest here e u after. absurd u
   Takes-factors_of (text ∷ texts) (x ∷ more) found =
-      Takes-value None (part names (codes "part") false text x ▸ each_with (part names (codes "part") false) texts more) anywhere (rules.factors_of names (text ∷ texts) found) ((found ++ x ∷ []) ++ more) (found ++ x ∷ more) (append_assoc found (x ∷ []) more)
-      (Takes-then None x ((found ++ x ∷ []) ++ more) (part names (codes "part") false text x) (each_with (part names (codes "part") false) texts more) anywhere (read.part names (codes "part") text false) (λ y. rules.factors_of names texts (found ++ y ∷ [])) (Takes-part None names (codes "part") text false x)
+      Takes-value None _ _ _ _ _ (append_assoc found (x ∷ []) more) (Takes-then None _ _ _ _ _ _ _ (Takes-part None names (codes "part") text false x)
       (Takes-factors_of texts more (found ++ x ∷ [])))
 
   Takes-cofactor : (place : ℕ) (x : Expr) → place ≤ largest_norm → Takes None (rules.cofactor names place) x (cofactor names place x) anywhere
   unfolding rules.cofactor
   Takes-cofactor place x low =
-      Takes-to_right None _ _ _ anywhere (rules.cofactor names place) x
-      (Takes-to_right None _ _ _ anywhere (rules.cofactor names place) x
-      (Takes-next None tt x (one (Word (codes "cofactor"))) (one (Number place) ▸ (one (Sign 58) ▸ value names true x)) anywhere (expect_word (codes "cofactor")) _ (Takes-expect_word None (codes "cofactor"))
-      (Takes-next None tt x (one (Number place)) (one (Sign 58) ▸ value names true x) anywhere (digits.exactly place) _ (Takes-exactly None place low)
-      (Takes-next None tt x (one (Sign 58)) (value names true x) anywhere (expect 58) _ (Takes-expect None 58) (Takes-value_line None names true x)))))
+      Takes-to_right None _ _ _ _ _ _ (Takes-to_right None _ _ _ _ _ _ (Takes-next None _ _ _ _ _ _ _ (Takes-expect_word None (codes "cofactor"))
+      (Takes-next None _ _ _ _ _ _ _ (Takes-exactly None place low)
+      (Takes-next None _ _ _ _ _ _ _ (Takes-expect None 58) (Takes-value_line None names true x)))))
 
   Takes-cofactors : (place : ℕ) (more found : List Expr) → place + length more ≤ largest_norm → Takes None (rules.cofactors_from names place (length more) found) (found ++ more) (cofactors names place more) anywhere
   unfolding rules.cofactors_from
-  Takes-cofactors place [] found low = Takes-value None nothing anywhere (pure found) found (found ++ []) (sym (append-nil found)) (Takes-pure None found anywhere)
+  Takes-cofactors place [] found low = Takes-value None _ _ _ _ _ (sym (append-nil found)) (Takes-pure None found anywhere)
   Takes-cofactors place (x ∷ more) found low =
-      Takes-value None (cofactors names place (x ∷ more)) anywhere (rules.cofactors_from names place (suc (length more)) found) ((found ++ x ∷ []) ++ more) (found ++ x ∷ more) (append_assoc found (x ∷ []) more)
-      (Takes-then None x ((found ++ x ∷ []) ++ more) (cofactor names place x) (cofactors names (place + 1) more) anywhere (rules.cofactor names place) (λ y. rules.cofactors_from names (place + 1) (length more) (found ++ y ∷ [])) (Takes-cofactor place x (omega (arith, low)))
+      Takes-value None _ _ _ _ _ (append_assoc found (x ∷ []) more) (Takes-then None _ _ _ _ _ _ _ (Takes-cofactor place x (omega (arith, low)))
       (Takes-cofactors (place + 1) more (found ++ x ∷ []) (omega (arith, low))))
 
   -- no token is left where no lexeme is
@@ -104,24 +88,24 @@ module _ (names : Names) where
   Takes-finish : Takes None rules.finish tt last_line nothing
   unfolding rules.finish
   Takes-finish =
-      Takes-next None tt tt (one (Word (codes "end"))) (one LineEnd) nothing (expect_word (codes "end")) _ (Takes-expect_word None (codes "end"))
+      Takes-next None _ _ _ _ _ _ _ (Takes-expect_word None (codes "end"))
       (Takes-as None (one LineEnd ▸ nothing) (one LineEnd) nothing nothing (line_end >> rules.at_end) tt (λ ls h. to_nothing h) (λ rest a. a)
-      (Takes-next None tt tt (one LineEnd) nothing nothing line_end _ (Takes-line_end None) Takes-at_end))
+      (Takes-next None _ _ _ _ _ _ _ (Takes-line_end None) Takes-at_end))
 
 -- a report under these names
 pub Takes-report : (variables : List Naming) (r : Report) → length r.cofactors < largest_norm → Takes None (rules.report variables (length r.cofactors)) r (grammar.report variables r) nothing
 unfolding rules.report
 Takes-report variables r few =
-    Takes-to_right None _ _ _ nothing p r (Takes-to_right None _ _ _ nothing p r (Takes-to_right None _ _ _ nothing p r
-    (Takes-to_right None _ _ _ nothing p r (Takes-to_right None _ _ _ nothing p r (Takes-to_right None _ _ _ nothing p r
-    (Takes-next None tt r (header (codes "report")) _ nothing (read.header (codes "report")) _ (Takes-header None (codes "report"))
-    (Takes-then None (r.index, r.order, r.degree) r (found_line r.index r.order r.degree) _ nothing rules.found_line _ (Takes-found_line names r.index r.order r.degree)
-    (Takes-then None r.telescoper r (keyed names (codes "telescoper") true r.telescoper) _ nothing (rules.keyed names (codes "telescoper") true) _ (Takes-keyed None names (codes "telescoper") true r.telescoper)
-    (Takes-then None r.quotients r (each_with (quotient names) summed r.quotients) _ nothing (rules.quotients_from names summed []) _ (Takes-quotients names summed r.quotients [])
-    (Takes-then None r.scale r (keyed names (codes "scale") false r.scale) _ nothing (rules.keyed names (codes "scale") false) _ (Takes-keyed None names (codes "scale") false r.scale)
-    (Takes-then None r.factors r (each_with (part names (codes "part") false) summed r.factors) _ nothing (rules.factors_of names summed []) _ (Takes-factors_of names summed r.factors [])
-    (Takes-then None r.cofactors r (cofactors names 1 r.cofactors) last_line nothing (rules.cofactors_from names 1 (length r.cofactors) []) _ (Takes-cofactors names 1 r.cofactors [] (omega (arith, few)))
-    (Takes-last None tt r last_line nothing rules.finish (λ _. pure r) (Takes-finish names) (λ k. refl))))))))))))))
+    Takes-to_right None _ _ _ _ _ _ (Takes-to_right None _ _ _ _ _ _ (Takes-to_right None _ _ _ _ _ _
+    (Takes-to_right None _ _ _ _ _ _ (Takes-to_right None _ _ _ _ _ _ (Takes-to_right None _ _ _ _ _ _
+    (Takes-next None _ _ _ _ _ _ _ (Takes-header None (codes "report"))
+    (Takes-then None _ _ _ _ _ _ _ (Takes-found_line names r.index r.order r.degree)
+    (Takes-then None _ _ _ _ _ _ _ (Takes-keyed None names (codes "telescoper") true r.telescoper)
+    (Takes-then None _ _ _ _ _ _ _ (Takes-quotients names summed r.quotients [])
+    (Takes-then None _ _ _ _ _ _ _ (Takes-keyed None names (codes "scale") false r.scale)
+    (Takes-then None _ _ _ _ _ _ _ (Takes-factors_of names summed r.factors [])
+    (Takes-then None _ _ _ _ _ _ _ (Takes-cofactors names 1 r.cofactors [] (omega (arith, few)))
+    (Takes-last None _ _ _ _ _ _ (Takes-finish names) (λ k. refl))))))))))))))
   where
     names : Names
     names = declared variables

@@ -1,5 +1,5 @@
 -- Lexemes that stand for a term are read as that term. Main lemma `Takes-term`, rule by rule.
-use Rattle.std.proofs.Common.{◌≡◌, ℕ, zero, suc, ◌≤◌, Bool, true, false, cond, List, [], ◌∷◌, ◌++◌, length, Option, refl, sym, ap, subst, arith, codes, length-append}
+use Rattle.std.proofs.Common.{◌≡◌, ℕ, zero, suc, ◌≤◌, Bool, false, cond, List, [], ◌∷◌, ◌++◌, length, Option, refl, sym, ap, subst, arith, codes, length-append}
 use Rattle.std.proofs.lemmas.List.{append_assoc}
 use Rattle.ct_mono.specs.Limits.{largest_degree}
 use Rattle.ct_expr.specs.declared.expr.Expr.{Expr}
@@ -8,8 +8,8 @@ use Rattle.ct_problem.specs.declared.fault.BadKind.TheVariants.{ExponentTooLarge
 use Rattle.ct_problem.specs.Input.{Input, Parser, ◌>>=◌, pure, eat}
 use Rattle.ct_problem.specs.Number as digits
 use Rattle.ct_problem.specs.Names.{Names}
-use Rattle.ct_problem.specs.Expressions.{product_of, atom, factor, factors_from, term}
-use Rattle.ct_problem.specs.Lexemes.{Lexeme, Word, Number, Sign, Texts, nothing, one, number, ◌▸◌, each}
+use Rattle.ct_problem.specs.Expressions.{product_of, factor, factors_from, term}
+use Rattle.ct_problem.specs.Lexemes.{Lexeme, Word, Number, Sign, Texts, nothing, one, ◌▸◌, each}
 use Rattle.ct_problem.specs.Grammar.{IsAtom, IsFactor, IsTerm, IsMoreFactor}
 use Rattle.ct_problem.proofs.LexemeSteps.{shown, shows_sign}
 use Rattle.ct_problem.proofs.JoinedTexts.{joined_to_right, on_second, to_nothing}
@@ -66,16 +66,16 @@ module _ (bad : Option ℕ) (names : Names) where
     Takes-factor : (x : Expr) → Takes bad (factor names operators inner) x (Factor x) AfterFactor
     unfolding factor
     Takes-factor x i used rest here e (IsFactor.plain u) after =
-        Takes-bind bad x x (Atom x) nothing AfterAtom AfterFactor (atom names operators inner) powered (Takes-atom bad names operators inner InParentheses inner_takes inner_opens x)
+        Takes-bind bad _ _ _ _ _ _ _ _ (Takes-atom bad names operators inner InParentheses inner_takes inner_opens x)
         (Takes-as bad nothing nothing (λ rest. shows_sign 94 rest ≡ false) AfterFactor (powered x) x (λ ls m. m) (λ rest a. a.no_power)
-        (Takes-last bad false x nothing (λ rest. shows_sign 94 rest ≡ false) (eat 94) (power_by x) (Takes-no_sign bad 94) (λ k. refl)))
+        (Takes-last bad _ _ _ _ _ _ (Takes-no_sign bad 94) (λ k. refl)))
         (λ back rest m after. subst (λ (ls : List Lexeme). AfterAtom (ls ++ rest)) (sym m) after.no_divisor) i used rest here e (to_nothing u) after
     Takes-factor x i used rest here e (IsFactor.power base n value u) after =
         subst (λ (y : Expr). Taken (factor names operators inner) i y rest) (sym value)
-        (Takes-to_right bad (Atom base) (one (Sign 94)) (number largest_degree n) anywhere (factor names operators inner) (expr.Power base n)
-        (Takes-bind bad base (expr.Power base n) (Atom base) (one (Sign 94) ▸ number largest_degree n) AfterAtom anywhere (atom names operators inner) powered (Takes-atom bad names operators inner InParentheses inner_takes inner_opens base)
-        (Takes-then bad true (expr.Power base n) (one (Sign 94)) (number largest_degree n) anywhere (eat 94) (power_by base) (Takes-eat bad 94)
-        (Takes-last bad n (expr.Power base n) (number largest_degree n) anywhere (digits.number largest_degree ExponentTooLarge) (λ m. pure (expr.Power base m)) (Takes-number bad largest_degree n ExponentTooLarge (omega arith)) (λ k. refl)))
+        (Takes-to_right bad _ _ _ _ _ _
+        (Takes-bind bad _ _ _ _ _ _ _ _ (Takes-atom bad names operators inner InParentheses inner_takes inner_opens base)
+        (Takes-then bad _ _ _ _ _ _ _ (Takes-eat bad 94)
+        (Takes-last bad _ _ _ _ _ _ (Takes-number bad largest_degree n ExponentTooLarge (omega arith)) (λ k. refl)))
         (λ back rest h after. begun-shows (Sign 94) back rest AfterAtom h (λ ls. refl)))
         i used rest here e u tt)
 
@@ -85,18 +85,17 @@ module _ (bad : Option ℕ) (names : Names) where
     Takes-factors : (more : List Expr) (first : Expr) (found : List Expr) (n : ℕ) → length more ≤ n → Takes bad (factors_from names operators inner (suc n) found) (product_of (found ++ first ∷ more)) (Factor first ▸ each MoreFactor more) AfterTerm
     unfolding factors_from
     Takes-factors [] first found n enough =
-        Takes-bind bad first (product_of (found ++ first ∷ [])) (Factor first) nothing AfterFactor AfterTerm (factor names operators inner) (λ x. eat 42 >>= factors_by n found x) (Takes-factor first)
+        Takes-bind bad _ _ _ _ _ _ _ _ (Takes-factor first)
         (Takes-as bad nothing nothing (λ rest. shows_sign 42 rest ≡ false) AfterTerm (eat 42 >>= factors_by n found first) (product_of (found ++ first ∷ [])) (λ ls m. m) (λ rest a. a.no_factor)
-        (Takes-last bad false (product_of (found ++ first ∷ [])) nothing (λ rest. shows_sign 42 rest ≡ false) (eat 42) (factors_by n found first) (Takes-no_sign bad 42) (λ k. refl)))
+        (Takes-last bad _ _ _ _ _ _ (Takes-no_sign bad 42) (λ k. refl)))
         (λ back rest m after. subst (λ (ls : List Lexeme). AfterFactor (ls ++ rest)) (sym m) (after_factor rest after))
     Takes-factors (y ∷ more) first found zero enough = let no : ⊥ = omega (arith, enough) in absurd no
     Takes-factors (y ∷ more) first found (suc n) enough =
         Takes-as bad (Factor first ▸ (one (Sign 42) ▸ (Factor y ▸ each MoreFactor more))) (Factor first ▸ each MoreFactor (y ∷ more)) AfterTerm AfterTerm (factors_from names operators inner (suc (suc n)) found) (product_of (found ++ first ∷ y ∷ more))
         (λ ls h. on_second (λ xs k. joined_to_right k) h) (λ rest a. a)
-        (Takes-value bad (Factor first ▸ (one (Sign 42) ▸ (Factor y ▸ each MoreFactor more))) AfterTerm (factors_from names operators inner (suc (suc n)) found) (product_of ((found ++ first ∷ []) ++ y ∷ more)) (product_of (found ++ first ∷ y ∷ more))
+        (Takes-value bad _ _ _ _ _
         (ap product_of (append_assoc found (first ∷ []) (y ∷ more)))
-        (Takes-bind bad first (product_of ((found ++ first ∷ []) ++ y ∷ more)) (Factor first) (one (Sign 42) ▸ (Factor y ▸ each MoreFactor more)) AfterFactor AfterTerm (factor names operators inner) (λ x. eat 42 >>= factors_by (suc n) found x) (Takes-factor first)
-        (Takes-then bad true (product_of ((found ++ first ∷ []) ++ y ∷ more)) (one (Sign 42)) (Factor y ▸ each MoreFactor more) AfterTerm (eat 42) (factors_by (suc n) found first) (Takes-eat bad 42)
+        (Takes-bind bad _ _ _ _ _ _ _ _ (Takes-factor first) (Takes-then bad _ _ _ _ _ _ _ (Takes-eat bad 42)
         (Takes-factors more y (found ++ first ∷ []) n (omega (arith, enough))))
         (λ back rest h after. begun-shows (Sign 42) back rest AfterFactor h (λ ls. record { no_divisor = refl; no_power = refl }))))
 
