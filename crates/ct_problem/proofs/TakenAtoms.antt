@@ -35,14 +35,14 @@ module _ (bad : Option ℕ) where
   Takes-whole : (n : ℕ) → Takes bad whole n (number largest_norm n) anywhere
   unfolding whole
   Takes-whole n i used rest here e u after =
-      Takes-coming bad n n anywhere (λ m. skip >> pure m) u.0 (Takes-last bad _ _ _ _ _ (λ _. pure n) (Takes-skip bad (Number n) refl) (λ k. refl)) i used rest here e u.1 tt
+      Takes-coming bad n n anywhere (λ m. skip >> pure m) u.0 (Takes-last bad (λ _. pure n) (Takes-skip bad (Number n) refl) (λ k. refl)) i used rest here e u.1 tt
 
   Takes-divisor : (d : ℕ) → d ≢ 0 → Takes bad divisor d (number largest_norm d) anywhere
   unfolding divisor
   Takes-divisor d some i used rest here e u after =
       let no_zero : d == 0 ≡ false = first_of (search (rules, tests), grind (arith, tests)) in
       Takes-coming bad d d anywhere (λ m. fault_if (m == 0) ZeroDenominator >> (skip >> pure m)) u.0
-      (Takes-fault_if bad _ _ _ _ _ _ no_zero (Takes-last bad _ _ _ _ _ (λ _. pure d) (Takes-skip bad (Number d) refl) (λ k. refl)))
+      (Takes-fault_if bad _ no_zero (Takes-last bad (λ _. pure d) (Takes-skip bad (Number d) refl) (λ k. refl)))
       i used rest here e u.1 tt
 
   abbrev ratio_by : ℕ → Bool → Parser Expr
@@ -52,13 +52,13 @@ module _ (bad : Option ℕ) where
   unfolding constant
   Takes-whole_number n =
       Takes-as bad (number largest_norm n ▸ nothing) (number largest_norm n) AfterAtom AfterAtom constant (expr.Whole (pos n)) (λ ls u. to_nothing u) (λ rest a. a)
-      (Takes-then bad _ _ _ _ _ _ _ (Takes-whole n) (Takes-last bad _ _ _ _ _ _ (Takes-no_sign bad 47) (λ k. refl)))
+      (Takes-then bad _ (Takes-whole n) (Takes-last bad _ (Takes-no_sign bad 47) (λ k. refl)))
 
   Takes-ratio : (n d : ℕ) → d ≢ 0 → Takes bad constant (expr.Ratio (pos n) (pos d)) (number largest_norm n ▸ one (Sign 47) ▸ number largest_norm d) anywhere
   unfolding constant
   Takes-ratio n d some =
-      Takes-to_right bad _ _ _ _ _ _ (Takes-then bad _ _ _ _ _ _ _ (Takes-whole n) (Takes-then bad _ _ _ _ _ _ _ (Takes-eat bad 47)
-      (Takes-last bad _ _ _ _ _ _ (Takes-divisor d some) (λ k. refl))))
+      Takes-to_right bad (Takes-then bad _ (Takes-whole n) (Takes-then bad _ (Takes-eat bad 47)
+      (Takes-last bad _ (Takes-divisor d some) (λ k. refl))))
 
 module _ (bad : Option ℕ) (names : Names) where
   -- ---- words
@@ -76,9 +76,9 @@ module _ (bad : Option ℕ) (names : Names) where
   Takes-symbol : (action : Action) (w letters : List ℕ) (at : ℕ) → IsActing names action letters at → Takes bad (symbol_by names action) (expr.Symbol at) (one (Word w) ▸ one (Sign 91) ▸ one (Word letters) ▸ one (Sign 93)) anywhere
   unfolding symbol_by
   Takes-symbol action w letters at known =
-      Takes-to_right bad _ _ _ _ _ _ (Takes-to_right bad _ _ _ _ _ _ (Takes-next bad _ _ _ _ _ _ _ (Takes-skip bad (Word w) refl)
-      (Takes-next bad _ _ _ _ _ _ _ (Takes-expect bad 91) (Takes-then bad _ _ _ _ _ _ _ (Takes-acting action letters at known)
-      (Takes-last bad _ _ _ _ _ _ (Takes-expect bad 93) (λ i. refl))))))
+      Takes-to_right bad (Takes-to_right bad (Takes-next bad (Takes-skip bad (Word w) refl)
+      (Takes-next bad (Takes-expect bad 91) (Takes-then bad _ (Takes-acting action letters at known)
+      (Takes-last bad _ (Takes-expect bad 93) (λ i. refl))))))
 
   module _ (operators : Bool) (inner : Parser Expr) (InParentheses : Expr → Texts)
       (inner_takes : (x : Expr) → Takes bad inner x (InParentheses x) anywhere)

@@ -28,11 +28,11 @@ module _ (bad : Option ℕ) where
       → Takes bad head (variables, definitions) (grammar.header (codes "problem") ▸ grammar.name_lines [] variables ▸ lets.let_lines variables definitions) (AfterLines bad 2)
   unfolding head
   Takes-head variables definitions few =
-      Takes-to_right bad _ _ _ _ _ _
+      Takes-to_right bad
       (Takes-as bad (nothing ▸ (Header ▸ (Lines ▸ Lets))) (Header ▸ (Lines ▸ Lets)) (AfterLines bad 2) (AfterLines bad 2) head h (λ ls m. record { front = []; back = ls; parts = refl; first = refl; second = m }) (λ rest a. a)
-      (Takes-bind bad _ _ _ _ _ _ _ _ (Takes-fresh_line bad) (Takes-bind bad _ _ _ _ _ _ _ _ (Takes-header bad (codes "problem"))
-      (Takes-bind bad _ _ _ _ _ _ _ _ (Takes-declarations bad variables few)
-      (Takes-last bad _ _ _ _ _ _ (Takes-let_lines bad variables definitions) (λ k. refl))
+      (Takes-bind bad _ (Takes-fresh_line bad) (Takes-bind bad _ (Takes-header bad (codes "problem"))
+      (Takes-bind bad _ (Takes-declarations bad variables few)
+      (Takes-last bad _ (Takes-let_lines bad variables definitions) (λ k. refl))
       (leads_lets bad variables definitions))
       (λ back rest m a. fresh_before bad back rest a.fresh))
       (λ back rest m a. fresh_before bad back rest a.fresh)))
@@ -88,16 +88,16 @@ module _ (bad : Option ℕ) where
     Takes-body : Takes bad (body p.variables p.definitions) p (Generators ▸ (Denominators ▸ (Targets ▸ (Orders ▸ Degrees)))) (AfterLines bad 8)
     unfolding body
     Takes-body =
-        Takes-bind bad _ _ _ _ _ _ _ _ (Takes-generators bad names p.generators) (Takes-bind bad _ _ _ _ _ _ _ _ (Takes-den_lines bad names p.dens)
-        (Takes-bind bad _ _ _ _ _ _ _ _ Takes-targets
-        (Takes-bind bad _ _ _ _ _ _ _ _ (Takes-range_line bad starts.Order 7 8 (omega arith) (omega arith) p.orders)
-        (Takes-last bad _ _ _ _ _ _ (Takes-range_line bad starts.Degree 8 12 (omega arith) (omega arith) p.degrees) (λ k. refl))
+        Takes-bind bad _ (Takes-generators bad names p.generators) (Takes-bind bad _ (Takes-den_lines bad names p.dens)
+        (Takes-bind bad _ Takes-targets
+        (Takes-bind bad _ (Takes-range_line bad starts.Order 7 8 (omega arith) (omega arith) p.orders)
+        (Takes-last bad _ (Takes-range_line bad starts.Degree 8 12 (omega arith) (omega arith) p.degrees) (λ k. refl))
         leads_degrees) leads_orders) leads_targets) leads_behind_generators
 
     pub Takes-all_lines : AreFew p.variables → Takes bad (head >>= (λ h. body h.0 h.1)) p (grammar.lines p) (AfterLines bad 8)
     Takes-all_lines few =
-        Takes-to_right bad _ _ _ _ _ _ (Takes-to_right bad _ _ _ _ _ _ (Takes-to_right bad _ _ _ _ _ _ (Takes-to_right bad _ _ _ _ _ _
-        (Takes-bind bad _ _ _ _ _ _ _ _ (Takes-head p.variables p.definitions few) Takes-body
+        Takes-to_right bad (Takes-to_right bad (Takes-to_right bad (Takes-to_right bad
+        (Takes-bind bad _ (Takes-head p.variables p.definitions few) Takes-body
         (leads_join bad 2 4 8 Generators (Denominators ▸ (Targets ▸ (Orders ▸ Degrees))) (leads_generators bad names p.generators) leads_behind_generators)))))
       where
         all : Parser Reading

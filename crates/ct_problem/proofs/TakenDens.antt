@@ -77,8 +77,8 @@ module _ (bad : Option ℕ) (names : Names) where
   Takes-den_line : (found : Dens) (at : ℕ) (x : Expr) → is_given at found ≡ false → Takes bad (den_line names found) (with_den at x found) (one (Word (codes "den")) ▸ (grammar.summed names at ▸ (one (Sign 58) ▸ grammar.value names false x))) (IsFresh bad)
   unfolding den_line
   Takes-den_line found at x other i used rest here e u after =
-      let t = Takes-next bad _ _ _ _ _ _ _ (Takes-skip bad (Word (codes "den")) refl)
-      (Takes-then bad _ _ _ _ _ _ _ (Takes-summed_name at) (behind (place i))) i used rest here e u after in
+      let t = Takes-next bad (Takes-skip bad (Word (codes "den")) refl)
+      (Takes-then bad _ (Takes-summed_name at) (behind (place i))) i used rest here e u after in
       record { left = t.left; reads = t.reads; shows = t.shows; follows = t.follows }
     where
       after_name : ℕ → ℕ → Parser Dens
@@ -89,8 +89,8 @@ module _ (bad : Option ℕ) (names : Names) where
 
       behind : (start : ℕ) → Takes bad (after_name start at) (with_den at x found) (one (Sign 58) ▸ grammar.value names false x) (IsFresh bad)
       behind start j us rs h f g a =
-          let t = Takes-next bad _ _ _ _ _ _ _ (Takes-expect bad 58)
-          (Takes-last bad _ _ _ _ _ _ (Takes-value_line bad names false x) (λ k. refl)) j us rs h f g a in
+          let t = Takes-next bad (Takes-expect bad 58)
+          (Takes-last bad _ (Takes-value_line bad names false x) (λ k. refl)) j us rs h f g a in
           record { left = t.left; reads = ap (λ (b : Bool). (once names b start >> (expect 58 >> (read.value names false >>= (λ y. pure (with_den at y found))))) j) other ∙ t.reads; shows = t.shows; follows = t.follows }
 
   -- so many lines there are at most
@@ -107,7 +107,7 @@ module _ (bad : Option ℕ) (names : Names) where
 
   Takes-lines : (lines : List (ℕ × Expr)) (found dens : Dens) (n : ℕ) → length lines ≤ n → grammar.Gives names found lines dens → Takes bad (den_lines_from names n found) dens (each (grammar.den_line names) lines) (AfterLines bad 5)
   unfolding den_lines_from
-  Takes-lines [] found dens zero enough gives i used rest here e u after = Takes-value bad _ _ _ _ _ gives (Takes-past bad (codes "den") 5 found (omega arith)) i used rest here e u after
+  Takes-lines [] found dens zero enough gives i used rest here e u after = Takes-value bad gives (Takes-past bad (codes "den") 5 found (omega arith)) i used rest here e u after
   Takes-lines [] found dens (suc n) enough gives i used rest here e u after =
       let here_shown : shown i ≡ rest = e ∙ ap (λ ls. ls ++ rest) u in
       let seen : sees_word (codes "den") i ≡ false = sees_word-shown (codes "den") i ∙ ap (shows_word (codes "den")) here_shown ∙ other_word (codes "den") 5 rest (omega arith) after.from in

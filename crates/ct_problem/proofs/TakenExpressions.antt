@@ -44,7 +44,7 @@ module _ (bad : Option ℕ) (names : Names) where
 
     Takes-joint : (negative : Bool) → Takes bad joint (Some negative) (one (Sign (cond negative 45 43))) anywhere
     unfolding joint
-    Takes-joint false i used rest here e u after = Takes-last bad _ _ _ _ _ _ (Takes-eat bad 43) (λ k. refl) i used rest here e u after
+    Takes-joint false i used rest here e u after = Takes-last bad _ (Takes-eat bad 43) (λ k. refl) i used rest here e u after
     Takes-joint true i used rest here e u after =
         let plus = Takes-no_sign bad 43 i [] (used ++ rest) here e refl (ap (λ ls. shows_sign 43 (ls ++ rest)) u) in
         let minus = Takes-eat bad 45 plus.left used rest (plus.follows.same_bad ∙ here) plus.shows u tt in
@@ -68,14 +68,14 @@ module _ (bad : Option ℕ) (names : Names) where
 
     Takes-summands_from : (more : List Term) (found : List Summand) (n : ℕ) → length more ≤ n → Takes bad (summands_from names operators inner n found) (found ++ made more) (each MoreTerm more) AfterSum
     unfolding summands_from
-    Takes-summands_from [] found zero enough = Takes-value bad _ _ _ _ _ (sym (append-nil found)) (Takes-pure bad found AfterSum)
+    Takes-summands_from [] found zero enough = Takes-value bad (sym (append-nil found)) (Takes-pure bad found AfterSum)
     Takes-summands_from [] found (suc n) enough =
-        Takes-value bad _ _ _ _ _ (sym (append-nil found)) (Takes-last bad _ _ _ _ _ _ Takes-no_joint (λ k. refl))
+        Takes-value bad (sym (append-nil found)) (Takes-last bad _ Takes-no_joint (λ k. refl))
     Takes-summands_from (t ∷ more) found zero enough = let no : ⊥ = omega (arith, enough) in absurd no
     Takes-summands_from (t ∷ more) found (suc n) enough =
-        Takes-value bad _ _ _ _ _ (append_assoc found (summand t.0 t.1 ∷ []) (made more)) (Takes-to_right bad _ _ _ _ _ _
-        (Takes-then bad _ _ _ _ _ _ _ (Takes-joint t.0)
-        (Takes-bind bad _ _ _ _ _ _ _ _ (Takes-term bad names operators inner InParentheses inner_takes inner_opens t.1)
+        Takes-value bad (append_assoc found (summand t.0 t.1 ∷ []) (made more)) (Takes-to_right bad
+        (Takes-then bad _ (Takes-joint t.0)
+        (Takes-bind bad _ (Takes-term bad names operators inner InParentheses inner_takes inner_opens t.1)
         (Takes-summands_from more (found ++ summand t.0 t.1 ∷ []) n (omega (arith, enough))) (terms_after more))))
 
     Takes-summands : (negative : Bool) (first : Expr) (more : List Term) → Takes bad (summands names operators inner first negative) (summand negative first ∷ made more) (each MoreTerm more) AfterSum
@@ -98,7 +98,7 @@ module _ (bad : Option ℕ) (names : Names) where
 
     Takes-all : (negative : Bool) (first : Expr) (more : List Term) → Takes bad (expr.Sum <$> summands names operators inner first negative) (expr.Sum (summand negative first ∷ made more)) (each MoreTerm more) AfterSum
     Takes-all negative first more =
-        Takes-last bad _ _ _ _ _ _ (Takes-summands negative first more) (λ k. refl)
+        Takes-last bad _ (Takes-summands negative first more) (λ k. refl)
 
     Takes-rest : (negative : Bool) (first : Expr) (more : List Term) → Takes bad (rest_by negative first) (sum_of negative first more) (each MoreTerm more) AfterSum
     Takes-rest true first more i used rest here e u after = Takes-all true first more i used rest here e u after
@@ -114,16 +114,16 @@ module _ (bad : Option ℕ) (names : Names) where
 
     from_first : (negative : Bool) (first : Expr) (more : List Term) → Takes bad (term names operators inner >>= rest_by negative) (sum_of negative first more) (ATerm first ▸ each MoreTerm more) AfterSum
     from_first negative first more =
-        Takes-bind bad _ _ _ _ _ _ _ _ (Takes-term bad names operators inner InParentheses inner_takes inner_opens first) (Takes-rest negative first more) (terms_after more)
+        Takes-bind bad _ (Takes-term bad names operators inner InParentheses inner_takes inner_opens first) (Takes-rest negative first more) (terms_after more)
 
     abbrev signed_by : Bool → Parser Expr
     signed_by negative = term names operators inner >>= rest_by negative
 
     Takes-signed : (negative : Bool) (first : Expr) (more : List Term) → Takes bad (eat 45 >>= signed_by) (sum_of negative first more) (optional (Sign 45) negative ▸ (ATerm first ▸ each MoreTerm more)) AfterSum
     Takes-signed true first more =
-        Takes-then bad _ _ _ _ _ _ _ (Takes-eat bad 45) (from_first true first more)
+        Takes-then bad _ (Takes-eat bad 45) (from_first true first more)
     Takes-signed false first more =
-        Takes-bind bad _ _ _ _ _ _ _ _ (Takes-no_sign bad 45) (from_first false first more)
+        Takes-bind bad _ (Takes-no_sign bad 45) (from_first false first more)
         (λ back rest h after. Opens-before back rest (Opens-joined h (term_opens bad names operators inner InParentheses inner_takes inner_opens first h.front h.first)))
 
     pub Takes-sum : (x : Expr) → Takes bad (sum names operators inner) x (IsSum names operators InParentheses x) AfterSum
@@ -142,9 +142,9 @@ module _ (bad : Option ℕ) (names : Names) where
     unfolding nested IsNested
     Takes-nested zero x i used rest here e u after = absurd u
     Takes-nested (suc depth) x i used rest here e u after =
-        Takes-to_right bad _ _ _ _ _ _ (Takes-next bad _ _ _ _ _ _ _ (Takes-skip bad (Sign 40) refl) (Takes-bind bad _ _ _ _ _ _ _ _
+        Takes-to_right bad (Takes-next bad (Takes-skip bad (Sign 40) refl) (Takes-bind bad _
         (Takes-sum operators (nested names operators depth) (IsNested names operators depth) (Takes-nested depth) (nested_opens depth) x)
-        (Takes-last bad _ _ _ _ _ _ (Takes-expect bad 41) (λ k. refl))
+        (Takes-last bad _ (Takes-expect bad 41) (λ k. refl))
         (λ back rest m after. subst (λ (ls : List Lexeme). AfterSum (ls ++ rest)) (sym m) (record { no_divisor = refl; no_power = refl; no_factor = refl; no_plus = refl; no_minus = refl })))) i used rest here e u after
 
     pub Takes-expression : (x : Expr) → Takes bad (expression names operators) x (IsExpression names operators x) AfterSum

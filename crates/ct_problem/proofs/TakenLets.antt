@@ -63,13 +63,13 @@ module _ (bad : Option ℕ) (names : Names) where
   unfolding listed_from
   Takes-listed x more found zero enough = let no : ⊥ = omega (arith, enough) in absurd no
   Takes-listed x [] found (suc n) enough =
-      Takes-bind bad _ _ _ _ _ _ _ _ (Takes-expression bad names true x)
+      Takes-bind bad _ (Takes-expression bad names true x)
       (Takes-as bad nothing nothing (λ rest. shows_sign 59 rest ≡ false) Ends (eat 59 >>= next_by n found x) (found ++ x ∷ []) (λ ls h. h) (λ rest a. ap (shows_sign 59) a.1)
-      (Takes-last bad _ _ _ _ _ _ (Takes-no_sign bad 59) (λ k. refl)))
+      (Takes-last bad _ (Takes-no_sign bad 59) (λ k. refl)))
       (λ back rest none a. subst (λ (ls : List Lexeme). AfterSum (ls ++ rest)) (sym none) (ends_sum rest a))
   Takes-listed x (y ∷ more) found (suc n) enough =
-      Takes-value bad _ _ _ _ _ (append_assoc found (x ∷ []) (y ∷ more)) (Takes-bind bad _ _ _ _ _ _ _ _ (Takes-expression bad names true x)
-      (Takes-to_right bad _ _ _ _ _ _ (Takes-then bad _ _ _ _ _ _ _ (Takes-eat bad 59)
+      Takes-value bad (append_assoc found (x ∷ []) (y ∷ more)) (Takes-bind bad _ (Takes-expression bad names true x)
+      (Takes-to_right bad (Takes-then bad _ (Takes-eat bad 59)
       (Takes-listed y more (found ++ x ∷ []) n (omega (arith, enough)))))
       (λ back rest h a. semicolon back rest h))
     where
@@ -81,14 +81,14 @@ module _ (bad : Option ℕ) (names : Names) where
   Takes-two_lists : (a b : ℕ) → Takes bad (two_lists names) (a, b) (lets.list names a ▸ lets.list names b) anywhere
   unfolding two_lists
   Takes-two_lists a b =
-      Takes-then bad _ _ _ _ _ _ _ (Takes-list_name a) (Takes-last bad _ _ _ _ _ _ (Takes-list_name b) (λ k. refl))
+      Takes-then bad _ (Takes-list_name a) (Takes-last bad _ (Takes-list_name b) (λ k. refl))
 
   Takes-applied : (a : ℕ) (x : Expr) → Takes bad (applied names) (form.Apply a x) (lets.list names a ▸ (one (Sign 58) ▸ IsExpression names true x)) Ends
   unfolding applied
   Takes-applied a x =
-      Takes-then bad _ _ _ _ _ _ _ (Takes-list_name a) (Takes-next bad _ _ _ _ _ _ _ (Takes-expect bad 58)
+      Takes-then bad _ (Takes-list_name a) (Takes-next bad (Takes-expect bad 58)
       (Takes-as bad (IsExpression names true x) (IsExpression names true x) AfterSum Ends (expression names true >>= (λ y. pure (form.Apply a y))) (form.Apply a x) (λ ls h. h) ends_sum
-      (Takes-last bad _ _ _ _ _ _ (Takes-expression bad names true x) (λ k. refl))))
+      (Takes-last bad _ (Takes-expression bad names true x) (λ k. refl))))
 
   -- what stands behind each word
   key_of : LetWord → List ℕ
@@ -118,7 +118,7 @@ module _ (bad : Option ℕ) (names : Names) where
   unfolding let_form
   after_word word f M takes i used rest here e h after =
       let head : shown i ≡ Word (key_of word) ∷ (h.back ++ rest) = e ∙ ap (λ ls. ls ++ rest) (h.parts ∙ ap (λ ls. ls ++ h.back) h.first) in
-      let t = Takes-next bad _ _ _ _ _ _ _ (Takes-skip bad (Word (key_of word)) refl) takes i used rest here e h after in
+      let t = Takes-next bad (Takes-skip bad (Word (key_of word)) refl) takes i used rest here e h after in
       record { left = t.left; reads = ap (λ (o : Option LetWord). form_of_word names o i) (let_with word i (h.back ++ rest) head) ∙ t.reads; shows = t.shows; follows = t.follows }
 
   Takes-let_form : (f : LetForm) → Takes bad (let_form names) f (lets.let_form names f) Ends
@@ -126,26 +126,26 @@ module _ (bad : Option ℕ) (names : Names) where
   Takes-let_form (form.Gens []) = λ i used rest here e u after. absurd u.1.second
   Takes-let_form (form.Gens (x ∷ more)) = λ i used rest here e u after.
       after_word Gens (form.Gens (x ∷ more)) (IsExpression names true x ▸ each (lets.more_listed names) more)
-      (Takes-last bad _ _ _ _ _ _ (Takes-listed x more [] 16 u.0) (λ k. refl)) i used rest here e u.1 after
+      (Takes-last bad _ (Takes-listed x more [] 16 u.0) (λ k. refl)) i used rest here e u.1 after
   Takes-let_form (form.Plus a b) =
-      Takes-to_right bad _ _ _ _ _ _
+      Takes-to_right bad
       (after_word Plus (form.Plus a b) (lets.list names a ▸ lets.list names b)
       (Takes-as bad (lets.list names a ▸ lets.list names b) (lets.list names a ▸ lets.list names b) anywhere Ends (form_by names Plus) (form.Plus a b) (λ ls h. h) (λ rest h. tt)
-      (Takes-last bad _ _ _ _ _ _ (Takes-two_lists a b) (λ k. refl))))
+      (Takes-last bad _ (Takes-two_lists a b) (λ k. refl))))
   Takes-let_form (form.Product a b) =
-      Takes-to_right bad _ _ _ _ _ _
+      Takes-to_right bad
       (after_word Product (form.Product a b) (lets.list names a ▸ lets.list names b)
       (Takes-as bad (lets.list names a ▸ lets.list names b) (lets.list names a ▸ lets.list names b) anywhere Ends (form_by names Product) (form.Product a b) (λ ls h. h) (λ rest h. tt)
-      (Takes-last bad _ _ _ _ _ _ (Takes-two_lists a b) (λ k. refl))))
+      (Takes-last bad _ (Takes-two_lists a b) (λ k. refl))))
   Takes-let_form (form.Apply a x) =
-      Takes-to_right bad _ _ _ _ _ _ (Takes-to_right bad _ _ _ _ _ _
+      Takes-to_right bad (Takes-to_right bad
       (after_word Apply (form.Apply a x) (lets.list names a ▸ (one (Sign 58) ▸ IsExpression names true x)) (Takes-applied a x)))
 
   Takes-definition : (d : Definition) → Takes bad (definition names) d (lets.declared names d.text ▸ (one (Sign 61) ▸ (lets.let_form names d.form ▸ one LineEnd))) (IsFresh bad)
   unfolding definition
   Takes-definition d =
-      Takes-then bad _ _ _ _ _ _ _ (Takes-new_name bad names d.text) (Takes-next bad _ _ _ _ _ _ _ (Takes-expect bad 61)
-      (Takes-bind bad _ _ _ _ _ _ _ _ (Takes-let_form d.form) (Takes-last bad _ _ _ _ _ _ (Takes-line_end bad) (λ k. refl))
+      Takes-then bad _ (Takes-new_name bad names d.text) (Takes-next bad (Takes-expect bad 61)
+      (Takes-bind bad _ (Takes-let_form d.form) (Takes-last bad _ (Takes-line_end bad) (λ k. refl))
       (λ back rest u a. (rest, ap (λ ls. ls ++ rest) u))))
 
 -- ---- lines

@@ -66,9 +66,9 @@ module _ (bad : Option ℕ) where
   unfolding new_name
   Takes-new_name names text i used rest here e u after =
       let head = headed bad i used rest (Word text) e u.1 in
-      let t = Takes-fault_if bad _ _ _ _ _ _ (le-ltb 32 (length text) u.0.short)
-      (Takes-fault_if bad _ _ _ _ _ _ (ap not u.0.other)
-      (Takes-last bad _ _ _ _ _ (λ _. pure text) (Takes-skip bad (Word text) refl) (λ k. refl))) i used rest here e u.1 tt in
+      let t = Takes-fault_if bad _ (le-ltb 32 (length text) u.0.short)
+      (Takes-fault_if bad _ (ap not u.0.other)
+      (Takes-last bad (λ _. pure text) (Takes-skip bad (Word text) refl) (λ k. refl))) i used rest here e u.1 tt in
       record { left = t.left; reads = ap (λ o. and_then o (λ v. fault_if (nat_lt 32 (length v)) NameTooLong >> old_by v)) (name_read i rest text head) ∙ t.reads; shows = t.shows; follows = t.follows }
     where
       old_by : List ℕ → Parser (List ℕ)
@@ -78,13 +78,13 @@ module _ (bad : Option ℕ) where
 
   Takes-shift : Takes bad free_action Shift (one (Word (codes "shift"))) anywhere
   unfolding free_action
-  Takes-shift = Takes-last bad _ _ _ _ _ _ (Takes-eat_word bad (codes "shift")) (λ k. refl)
+  Takes-shift = Takes-last bad _ (Takes-eat_word bad (codes "shift")) (λ k. refl)
 
   Takes-diff : Takes bad free_action Derive (one (Word (codes "diff"))) anywhere
   unfolding free_action
   Takes-diff i used rest here e u after =
       let no_shift = Takes-no_word bad (codes "shift") i [] (used ++ rest) here e refl (ap (λ ls. shows_word (codes "shift") (ls ++ rest)) u) in
-      let diff = Takes-last bad _ _ _ _ _ _ (Takes-expect_word bad (codes "diff")) (λ k. refl) no_shift.left used rest (no_shift.follows.same_bad ∙ here) no_shift.shows u tt in
+      let diff = Takes-last bad _ (Takes-expect_word bad (codes "diff")) (λ k. refl) no_shift.left used rest (no_shift.follows.same_bad ∙ here) no_shift.shows u tt in
       Taken-bind bad (eat_word (codes "shift")) (λ is_shift. cond is_shift (pure Shift) (expect_word (codes "diff") >> pure Derive)) i false Derive (used ++ rest) rest no_shift diff
 
   -- ---- a name line
@@ -101,28 +101,28 @@ module _ (bad : Option ℕ) where
     after_text line t = action_of_line line >>= (λ action. line_end >> pure (record { text = t; action = action; role = role_of_line line }))
 
     Takes-end : (n : Naming) → Takes bad (line_end >> pure n) n (one LineEnd) (IsFresh bad)
-    Takes-end n = Takes-last bad _ _ _ _ _ _ (Takes-line_end bad) (λ k. refl)
+    Takes-end n = Takes-last bad _ (Takes-line_end bad) (λ k. refl)
 
     line_taken : (line : NameLine) (word : List ℕ) (n : Naming) (M : Texts) → is_full line found ≡ false → Takes bad (after_text line text) n M (IsFresh bad)
         → Takes bad (declaration line found) n (one (Word word) ▸ (lets.declared (declared found) text ▸ M)) (IsFresh bad)
     unfolding declaration
     line_taken line word n M room takes =
-        Takes-fault_if bad _ _ _ _ _ _ room (Takes-next bad _ _ _ _ _ _ _ (Takes-skip bad (Word word) refl)
-        (Takes-then bad _ _ _ _ _ _ _ (Takes-new_name (declared found) text) takes))
+        Takes-fault_if bad _ room (Takes-next bad (Takes-skip bad (Word word) refl)
+        (Takes-then bad _ (Takes-new_name (declared found) text) takes))
 
     free_line : (word : List ℕ) (action : Action) → is_full Free found ≡ false → Takes bad free_action action (one (Word word)) anywhere
         → Takes bad (declaration Free found) (record { text = text; action = action; role = role.Free }) (one (Word (codes "free")) ▸ lets.declared (declared found) text ▸ one (Word word) ▸ one LineEnd) (IsFresh bad)
     free_line word action room takes =
-        Takes-to_right bad _ _ _ _ _ _ (Takes-to_right bad _ _ _ _ _ _
+        Takes-to_right bad (Takes-to_right bad
         (line_taken Free (codes "free") n (one (Word word) ▸ one LineEnd) room
-        (Takes-then bad _ _ _ _ _ _ _ takes (Takes-end n))))
+        (Takes-then bad _ takes (Takes-end n))))
       where
         n : Naming
         n = record { text = text; action = action; role = role.Free }
 
     short_line : (line : NameLine) (word : List ℕ) (n : Naming) → is_full line found ≡ false → Takes bad (after_text line text) n (one LineEnd) (IsFresh bad)
         → Takes bad (declaration line found) n (one (Word word) ▸ lets.declared (declared found) text ▸ one LineEnd) (IsFresh bad)
-    short_line line word n room takes = Takes-to_right bad _ _ _ _ _ _ (line_taken line word n (one LineEnd) room takes)
+    short_line line word n room takes = Takes-to_right bad (line_taken line word n (one LineEnd) room takes)
 
     -- the first word of a line, which four parts or three make
     word_of_four : (word : List ℕ) (b c d : Texts) (i : Input) (used rest : List Lexeme) → shown i ≡ used ++ rest → (one (Word word) ▸ b ▸ c ▸ d) used → (back : List Lexeme) × (shown i ≡ Word word ∷ back)
@@ -194,4 +194,4 @@ module _ (bad : Option ℕ) where
   unfolding declarations
   Takes-declarations ns few =
       let summed = few.few_summed in
-      Takes-last bad _ _ _ _ _ _ (Takes-lines ns [] 6 few.few (few_rooms [] ns (record { operators = few.few_operators; summed = omega (arith, summed_count ns, summed) }))) (some_read ns few.some)
+      Takes-last bad _ (Takes-lines ns [] 6 few.few (few_rooms [] ns (record { operators = few.few_operators; summed = omega (arith, summed_count ns, summed) }))) (some_read ns few.some)

@@ -28,15 +28,15 @@ module _ (bad : Option ℕ) where
   unfolding high_number
   Takes-high limit low n most rising within =
       Takes-coming bad n n anywhere (λ m. fault_if (nat_lt limit m) OutOfRange >> (fault_if (nat_lt m low) EmptyRange >> (skip >> pure m))) (omega (arith, most, within))
-      (Takes-fault_if bad _ _ _ _ _ _ (le-ltb limit n within) (Takes-fault_if bad _ _ _ _ _ _ (le-ltb n low rising)
-      (Takes-last bad _ _ _ _ _ (λ _. pure n) (Takes-skip bad (Number n) refl) (λ k. refl))))
+      (Takes-fault_if bad _ (le-ltb limit n within) (Takes-fault_if bad _ (le-ltb n low rising)
+      (Takes-last bad (λ _. pure n) (Takes-skip bad (Number n) refl) (λ k. refl))))
 
   Takes-range : (limit : ℕ) (r : Range) → limit ≤ largest_norm → Takes bad (range limit) r (grammar.range limit r) anywhere
   unfolding range
   Takes-range limit r most i used rest here e u after =
       let within = u.spelled.second.0 in
-      Takes-then bad _ _ _ _ _ _ _ (Takes-number bad limit r.low OutOfRange most) (Takes-next bad _ _ _ _ _ _ _ (Takes-dots bad)
-      (Takes-last bad _ _ _ _ _ _ (Takes-high limit r.low r.high most u.rising within) (λ k. refl)))
+      Takes-then bad _ (Takes-number bad limit r.low OutOfRange most) (Takes-next bad (Takes-dots bad)
+      (Takes-last bad _ (Takes-high limit r.low r.high most u.rising within) (λ k. refl)))
       i used rest here e (number_alone u.spelled) after
     where
       number_alone : {ls : List Lexeme} → (number limit r.low ▸ one Dots ▸ number limit r.high) ls → (number limit r.low ▸ (one Dots ▸ one (Number r.high))) ls
@@ -50,11 +50,11 @@ module _ (bad : Option ℕ) where
     unfolding range_line
     Takes-range_line None =
         Takes-as bad nothing nothing (λ rest. shows_word (word_of k) rest ≡ false) (AfterLines bad r) (eat_word (word_of k) >>= line_by) None (λ ls h. h) (λ rest a. other_word (word_of k) r rest below a.from)
-        (Takes-last bad _ _ _ _ _ _ (Takes-no_word bad (word_of k)) (λ i. refl))
+        (Takes-last bad _ (Takes-no_word bad (word_of k)) (λ i. refl))
     Takes-range_line (Some x) =
         Takes-as bad (one (Word (word_of k)) ▸ (grammar.range limit x ▸ (one LineEnd ▸ nothing))) (grammar.range_line (word_of k) limit (Some x)) (AfterLines bad r) (AfterLines bad r) (eat_word (word_of k) >>= line_by) (Some x) (λ ls h. apart ls h) (λ rest a. a)
-        (Takes-then bad _ _ _ _ _ _ _ (Takes-eat_word bad (word_of k)) (Takes-then bad _ _ _ _ _ _ _ (Takes-range limit x most)
-        (Takes-bind bad _ _ _ _ _ _ _ _ (Takes-line_end bad) (Takes-past bad (word_of k) r (Some x) below)
+        (Takes-then bad _ (Takes-eat_word bad (word_of k)) (Takes-then bad _ (Takes-range limit x most)
+        (Takes-bind bad _ (Takes-line_end bad) (Takes-past bad (word_of k) r (Some x) below)
         (λ back rest none after. fresh back rest none after.fresh))))
       where
         fresh : (back rest : List Lexeme) → nothing back → IsFresh bad rest → IsFresh bad (back ++ rest)
@@ -72,8 +72,8 @@ module _ (bad : Option ℕ) (names : Names) where
   Takes-used : (at : ℕ) → Takes bad (used names) (Named at) (lets.list names at ▸ (one LineEnd ▸ nothing)) (AfterLines bad 4)
   unfolding used
   Takes-used at =
-      Takes-then bad _ _ _ _ _ _ _ (Takes-list_name bad names at)
-      (Takes-bind bad _ _ _ _ _ _ _ _ (Takes-line_end bad) (Takes-past bad (codes "use") 4 (Named at) (omega arith))
+      Takes-then bad _ (Takes-list_name bad names at)
+      (Takes-bind bad _ (Takes-line_end bad) (Takes-past bad (codes "use") 4 (Named at) (omega arith))
       (λ back rest none after. fresh_before bad back rest after.fresh))
 
   abbrev use_by : Bool → Parser Gens
@@ -82,15 +82,15 @@ module _ (bad : Option ℕ) (names : Names) where
   pub Takes-generators : (g : Gens) → Takes bad (generators names) g (grammar.generators names g) (AfterLines bad 4)
   unfolding generators
   Takes-generators (Listed []) i used rest here e u after =
-      Takes-bind bad _ _ _ _ _ _ _ _ (Takes-values bad names starts.Gen 3 (omega arith) [] (omega arith))
+      Takes-bind bad _ (Takes-values bad names starts.Gen 3 (omega arith) [] (omega arith))
       (Takes-as bad nothing nothing (λ ls. shows_word (codes "use") ls ≡ false) (AfterLines bad 4) (eat_word (codes "use") >>= use_by) (Listed []) (λ ls h. h) (λ ls a. other_word (codes "use") 4 ls (omega arith) a.from)
-      (Takes-last bad _ _ _ _ _ _ (Takes-no_word bad (codes "use")) (λ k. refl)))
+      (Takes-last bad _ (Takes-no_word bad (codes "use")) (λ k. refl)))
       (λ back ls none a. starts.leads_nothing bad 3 4 (omega arith) back ls none a) i used rest here e (to_nothing u.1) after
   Takes-generators (Listed (x ∷ xs)) i used rest here e u after =
-      Takes-last bad _ _ _ _ _ _ (Takes-values bad names starts.Gen 4 (omega arith) (x ∷ xs) u.0) (λ k. refl) i used rest here e u.1 after
+      Takes-last bad _ (Takes-values bad names starts.Gen 4 (omega arith) (x ∷ xs) u.0) (λ k. refl) i used rest here e u.1 after
   Takes-generators (Named at) i used rest here e u after =
-      Takes-bind bad _ _ _ _ _ _ _ _ (Takes-values bad names starts.Gen 3 (omega arith) [] (omega arith))
-      (Takes-then bad _ _ _ _ _ _ _ (Takes-eat_word bad (codes "use")) (Takes-used at))
+      Takes-bind bad _ (Takes-values bad names starts.Gen 3 (omega arith) [] (omega arith))
+      (Takes-then bad _ (Takes-eat_word bad (codes "use")) (Takes-used at))
       (λ back ls h a. leads_key bad starts.Use 3 4 _ (omega arith) back ls h a) i used rest here e (record { front = []; back = used; parts = refl; first = refl; second = apart used u }) after
     where
       apart : (ls : List Lexeme) → grammar.generators names (Named at) ls → (one (Word (codes "use")) ▸ (lets.list names at ▸ (one LineEnd ▸ nothing))) ls

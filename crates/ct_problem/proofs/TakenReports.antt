@@ -24,51 +24,51 @@ use Rattle.ct_problem.proofs.TakenLines.{Takes-header, Takes-value_line, Takes-k
 
 module _ (names : Names) where
   Takes-numbered : (key : List ℕ) (n : ℕ) → Takes None (rules.numbered key) n (numbered key n) anywhere
-  Takes-numbered key n = Takes-next None _ _ _ _ _ _ _ (Takes-expect_word None key) (Takes-number None 65535 n OutOfRange (omega arith))
+  Takes-numbered key n = Takes-next None (Takes-expect_word None key) (Takes-number None 65535 n OutOfRange (omega arith))
 
   Takes-found_line : (index order degree : ℕ) → Takes None rules.found_line (index, order, degree) (found_line index order degree) anywhere
   unfolding rules.found_line
   Takes-found_line index order degree =
-      Takes-to_right None _ _ _ _ _ _ (Takes-to_right None _ _ _ _ _ _ (Takes-then None _ _ _ _ _ _ _ (Takes-numbered (codes "found") index)
-      (Takes-then None _ _ _ _ _ _ _ (Takes-numbered (codes "order") order) (Takes-then None _ _ _ _ _ _ _ (Takes-numbered (codes "degree") degree)
-      (Takes-last None _ _ _ _ _ _ (Takes-line_end None) (λ k. refl))))))
+      Takes-to_right None (Takes-to_right None (Takes-then None _ (Takes-numbered (codes "found") index)
+      (Takes-then None _ (Takes-numbered (codes "order") order) (Takes-then None _ (Takes-numbered (codes "degree") degree)
+      (Takes-last None _ (Takes-line_end None) (λ k. refl))))))
 
   Takes-quotient : (text : List ℕ) (q : Quotient) → Takes None (rules.quotient names text) q (quotient names text q) anywhere
   unfolding rules.quotient
   Takes-quotient text q =
-      Takes-then None _ _ _ _ _ _ _ (Takes-part None names (codes "numerator") text true q.numerator) (Takes-last None _ _ _ _ _ _
+      Takes-then None _ (Takes-part None names (codes "numerator") text true q.numerator) (Takes-last None _
       (Takes-part None names (codes "denominator") text false q.denominator) (λ k. refl))
 
   Takes-quotients : (texts : List (List ℕ)) (more found : List Quotient) → Takes None (rules.quotients_from names texts found) (found ++ more) (each_with (quotient names) texts more) anywhere
   unfolding rules.quotients_from
-  Takes-quotients [] [] found = Takes-value None _ _ _ _ _ (sym (append-nil found)) (Takes-pure None found anywhere)
+  Takes-quotients [] [] found = Takes-value None (sym (append-nil found)) (Takes-pure None found anywhere)
   Takes-quotients [] (q ∷ more) found = λ i used rest here e u after. absurd u
   Takes-quotients (text ∷ texts) [] found = λ i used rest here e u after. absurd u
   Takes-quotients (text ∷ texts) (q ∷ more) found =
-      Takes-value None _ _ _ _ _ (append_assoc found (q ∷ []) more) (Takes-then None _ _ _ _ _ _ _ (Takes-quotient text q)
+      Takes-value None (append_assoc found (q ∷ []) more) (Takes-then None _ (Takes-quotient text q)
       (Takes-quotients texts more (found ++ q ∷ [])))
 
   Takes-factors_of : (texts : List (List ℕ)) (more found : List Expr) → Takes None (rules.factors_of names texts found) (found ++ more) (each_with (part names (codes "part") false) texts more) anywhere
   unfolding rules.factors_of
-  Takes-factors_of [] [] found = Takes-value None _ _ _ _ _ (sym (append-nil found)) (Takes-pure None found anywhere)
+  Takes-factors_of [] [] found = Takes-value None (sym (append-nil found)) (Takes-pure None found anywhere)
   Takes-factors_of [] (x ∷ more) found = λ i used rest here e u after. absurd u
   Takes-factors_of (text ∷ texts) [] found = λ i used rest here e u after. absurd u
   Takes-factors_of (text ∷ texts) (x ∷ more) found =
-      Takes-value None _ _ _ _ _ (append_assoc found (x ∷ []) more) (Takes-then None _ _ _ _ _ _ _ (Takes-part None names (codes "part") text false x)
+      Takes-value None (append_assoc found (x ∷ []) more) (Takes-then None _ (Takes-part None names (codes "part") text false x)
       (Takes-factors_of texts more (found ++ x ∷ [])))
 
   Takes-cofactor : (place : ℕ) (x : Expr) → place ≤ largest_norm → Takes None (rules.cofactor names place) x (cofactor names place x) anywhere
   unfolding rules.cofactor
   Takes-cofactor place x low =
-      Takes-to_right None _ _ _ _ _ _ (Takes-to_right None _ _ _ _ _ _ (Takes-next None _ _ _ _ _ _ _ (Takes-expect_word None (codes "cofactor"))
-      (Takes-next None _ _ _ _ _ _ _ (Takes-exactly None place low)
-      (Takes-next None _ _ _ _ _ _ _ (Takes-expect None 58) (Takes-value_line None names true x)))))
+      Takes-to_right None (Takes-to_right None (Takes-next None (Takes-expect_word None (codes "cofactor"))
+      (Takes-next None (Takes-exactly None place low)
+      (Takes-next None (Takes-expect None 58) (Takes-value_line None names true x)))))
 
   Takes-cofactors : (place : ℕ) (more found : List Expr) → place + length more ≤ largest_norm → Takes None (rules.cofactors_from names place (length more) found) (found ++ more) (cofactors names place more) anywhere
   unfolding rules.cofactors_from
-  Takes-cofactors place [] found low = Takes-value None _ _ _ _ _ (sym (append-nil found)) (Takes-pure None found anywhere)
+  Takes-cofactors place [] found low = Takes-value None (sym (append-nil found)) (Takes-pure None found anywhere)
   Takes-cofactors place (x ∷ more) found low =
-      Takes-value None _ _ _ _ _ (append_assoc found (x ∷ []) more) (Takes-then None _ _ _ _ _ _ _ (Takes-cofactor place x (omega (arith, low)))
+      Takes-value None (append_assoc found (x ∷ []) more) (Takes-then None _ (Takes-cofactor place x (omega (arith, low)))
       (Takes-cofactors (place + 1) more (found ++ x ∷ []) (omega (arith, low))))
 
   -- no token is left where no lexeme is
@@ -88,24 +88,24 @@ module _ (names : Names) where
   Takes-finish : Takes None rules.finish tt last_line nothing
   unfolding rules.finish
   Takes-finish =
-      Takes-next None _ _ _ _ _ _ _ (Takes-expect_word None (codes "end"))
+      Takes-next None (Takes-expect_word None (codes "end"))
       (Takes-as None (one LineEnd ▸ nothing) (one LineEnd) nothing nothing (line_end >> rules.at_end) tt (λ ls h. to_nothing h) (λ rest a. a)
-      (Takes-next None _ _ _ _ _ _ _ (Takes-line_end None) Takes-at_end))
+      (Takes-next None (Takes-line_end None) Takes-at_end))
 
 -- a report under these names
 pub Takes-report : (variables : List Naming) (r : Report) → length r.cofactors < largest_norm → Takes None (rules.report variables (length r.cofactors)) r (grammar.report variables r) nothing
 unfolding rules.report
 Takes-report variables r few =
-    Takes-to_right None _ _ _ _ _ _ (Takes-to_right None _ _ _ _ _ _ (Takes-to_right None _ _ _ _ _ _
-    (Takes-to_right None _ _ _ _ _ _ (Takes-to_right None _ _ _ _ _ _ (Takes-to_right None _ _ _ _ _ _
-    (Takes-next None _ _ _ _ _ _ _ (Takes-header None (codes "report"))
-    (Takes-then None _ _ _ _ _ _ _ (Takes-found_line names r.index r.order r.degree)
-    (Takes-then None _ _ _ _ _ _ _ (Takes-keyed None names (codes "telescoper") true r.telescoper)
-    (Takes-then None _ _ _ _ _ _ _ (Takes-quotients names summed r.quotients [])
-    (Takes-then None _ _ _ _ _ _ _ (Takes-keyed None names (codes "scale") false r.scale)
-    (Takes-then None _ _ _ _ _ _ _ (Takes-factors_of names summed r.factors [])
-    (Takes-then None _ _ _ _ _ _ _ (Takes-cofactors names 1 r.cofactors [] (omega (arith, few)))
-    (Takes-last None _ _ _ _ _ _ (Takes-finish names) (λ k. refl))))))))))))))
+    Takes-to_right None (Takes-to_right None (Takes-to_right None
+    (Takes-to_right None (Takes-to_right None (Takes-to_right None
+    (Takes-next None (Takes-header None (codes "report"))
+    (Takes-then None _ (Takes-found_line names r.index r.order r.degree)
+    (Takes-then None _ (Takes-keyed None names (codes "telescoper") true r.telescoper)
+    (Takes-then None _ (Takes-quotients names summed r.quotients [])
+    (Takes-then None _ (Takes-keyed None names (codes "scale") false r.scale)
+    (Takes-then None _ (Takes-factors_of names summed r.factors [])
+    (Takes-then None _ (Takes-cofactors names 1 r.cofactors [] (omega (arith, few)))
+    (Takes-last None _ (Takes-finish names) (λ k. refl))))))))))))))
   where
     names : Names
     names = declared variables

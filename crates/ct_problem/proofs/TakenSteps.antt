@@ -115,7 +115,7 @@ module _ (bad : Option ℕ) where
       let small = u.0 in
       let within : nat_lt limit n ≡ false = first_of (search (rules, tests), grind (arith, tests)) in
       Takes-coming n n anywhere (λ m. fault_if (nat_lt limit m) kind >> (skip >> pure m)) (omega (arith, small, low))
-      (Takes-fault_if bad _ _ _ _ _ _ within (Takes-last bad _ _ _ _ _ (λ _. pure n) (Takes-skip bad (Number n) refl) (λ k. refl)))
+      (Takes-fault_if bad _ within (Takes-last bad (λ _. pure n) (Takes-skip bad (Number n) refl) (λ k. refl)))
       i used rest here e u.1 tt
 
   pub Takes-exactly : (n : ℕ) → n ≤ largest_norm → Takes bad (digits.exactly n) tt (one (Number n)) anywhere

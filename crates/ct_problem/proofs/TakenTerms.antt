@@ -66,16 +66,16 @@ module _ (bad : Option ℕ) (names : Names) where
     Takes-factor : (x : Expr) → Takes bad (factor names operators inner) x (Factor x) AfterFactor
     unfolding factor
     Takes-factor x i used rest here e (IsFactor.plain u) after =
-        Takes-bind bad _ _ _ _ _ _ _ _ (Takes-atom bad names operators inner InParentheses inner_takes inner_opens x)
+        Takes-bind bad _ (Takes-atom bad names operators inner InParentheses inner_takes inner_opens x)
         (Takes-as bad nothing nothing (λ rest. shows_sign 94 rest ≡ false) AfterFactor (powered x) x (λ ls m. m) (λ rest a. a.no_power)
-        (Takes-last bad _ _ _ _ _ _ (Takes-no_sign bad 94) (λ k. refl)))
+        (Takes-last bad _ (Takes-no_sign bad 94) (λ k. refl)))
         (λ back rest m after. subst (λ (ls : List Lexeme). AfterAtom (ls ++ rest)) (sym m) after.no_divisor) i used rest here e (to_nothing u) after
     Takes-factor x i used rest here e (IsFactor.power base n value u) after =
         subst (λ (y : Expr). Taken (factor names operators inner) i y rest) (sym value)
-        (Takes-to_right bad _ _ _ _ _ _
-        (Takes-bind bad _ _ _ _ _ _ _ _ (Takes-atom bad names operators inner InParentheses inner_takes inner_opens base)
-        (Takes-then bad _ _ _ _ _ _ _ (Takes-eat bad 94)
-        (Takes-last bad _ _ _ _ _ _ (Takes-number bad largest_degree n ExponentTooLarge (omega arith)) (λ k. refl)))
+        (Takes-to_right bad
+        (Takes-bind bad _ (Takes-atom bad names operators inner InParentheses inner_takes inner_opens base)
+        (Takes-then bad _ (Takes-eat bad 94)
+        (Takes-last bad _ (Takes-number bad largest_degree n ExponentTooLarge (omega arith)) (λ k. refl)))
         (λ back rest h after. begun-shows (Sign 94) back rest AfterAtom h (λ ls. refl)))
         i used rest here e u tt)
 
@@ -85,17 +85,17 @@ module _ (bad : Option ℕ) (names : Names) where
     Takes-factors : (more : List Expr) (first : Expr) (found : List Expr) (n : ℕ) → length more ≤ n → Takes bad (factors_from names operators inner (suc n) found) (product_of (found ++ first ∷ more)) (Factor first ▸ each MoreFactor more) AfterTerm
     unfolding factors_from
     Takes-factors [] first found n enough =
-        Takes-bind bad _ _ _ _ _ _ _ _ (Takes-factor first)
+        Takes-bind bad _ (Takes-factor first)
         (Takes-as bad nothing nothing (λ rest. shows_sign 42 rest ≡ false) AfterTerm (eat 42 >>= factors_by n found first) (product_of (found ++ first ∷ [])) (λ ls m. m) (λ rest a. a.no_factor)
-        (Takes-last bad _ _ _ _ _ _ (Takes-no_sign bad 42) (λ k. refl)))
+        (Takes-last bad _ (Takes-no_sign bad 42) (λ k. refl)))
         (λ back rest m after. subst (λ (ls : List Lexeme). AfterFactor (ls ++ rest)) (sym m) (after_factor rest after))
     Takes-factors (y ∷ more) first found zero enough = let no : ⊥ = omega (arith, enough) in absurd no
     Takes-factors (y ∷ more) first found (suc n) enough =
         Takes-as bad (Factor first ▸ (one (Sign 42) ▸ (Factor y ▸ each MoreFactor more))) (Factor first ▸ each MoreFactor (y ∷ more)) AfterTerm AfterTerm (factors_from names operators inner (suc (suc n)) found) (product_of (found ++ first ∷ y ∷ more))
         (λ ls h. on_second (λ xs k. joined_to_right k) h) (λ rest a. a)
-        (Takes-value bad _ _ _ _ _
+        (Takes-value bad
         (ap product_of (append_assoc found (first ∷ []) (y ∷ more)))
-        (Takes-bind bad _ _ _ _ _ _ _ _ (Takes-factor first) (Takes-then bad _ _ _ _ _ _ _ (Takes-eat bad 42)
+        (Takes-bind bad _ (Takes-factor first) (Takes-then bad _ (Takes-eat bad 42)
         (Takes-factors more y (found ++ first ∷ []) n (omega (arith, enough))))
         (λ back rest h after. begun-shows (Sign 42) back rest AfterFactor h (λ ls. record { no_divisor = refl; no_power = refl }))))
 

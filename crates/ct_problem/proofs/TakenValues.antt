@@ -30,7 +30,7 @@ module _ (bad : Option ℕ) where
   pub Takes-past : {A : Type 0} (key : List ℕ) (r : ℕ) (x : A) → rank_of key < r → Takes bad (read.no_more key >> pure x) x nothing (AfterLines bad r)
   Takes-past key r x below =
       Takes-as bad nothing nothing (λ rest. shows_word key rest ≡ false) (AfterLines bad r) (read.no_more key >> pure x) x (λ ls h. h) (λ rest a. other_word key r rest below a.from)
-      (Takes-last bad _ _ _ _ _ _ (Takes-no_more key) (λ k. refl))
+      (Takes-last bad _ (Takes-no_more key) (λ k. refl))
 
   -- at most so many lines that begin with this word
   module _ {X : Type 0} (k : Key) (r : ℕ) (below : rank_of (word_of k) < r) (line : List X → Parser X) (from : ℕ → List X → Parser (List X))
@@ -48,19 +48,19 @@ module _ (bad : Option ℕ) where
     pub Takes-key_lines : (xs found : List X) (n : ℕ) → length xs ≤ n → Takes bad (from n found) (found ++ xs) (B found xs) (AfterLines bad r)
     Takes-key_lines [] found zero enough =
         subst (Reads found []) (sym (stops found))
-        (Takes-value bad _ _ _ _ _ (sym (append-nil found))
+        (Takes-value bad (sym (append-nil found))
         (Takes-as bad nothing (B found []) (AfterLines bad r) (AfterLines bad r) (read.no_more (word_of k) >> pure found) found (none found) (λ rest a. a) (Takes-past (word_of k) r found below)))
     Takes-key_lines [] found (suc n) enough =
         subst (Reads found []) (sym (goes n found))
-        (Takes-value bad _ _ _ _ _ (sym (append-nil found))
+        (Takes-value bad (sym (append-nil found))
         (Takes-as bad nothing (B found []) (λ rest. shows_word (word_of k) rest ≡ false) (AfterLines bad r) (eat_word (word_of k) >>= more_by n found) found (none found) (λ rest a. other_word (word_of k) r rest below a.from)
-        (Takes-last bad _ _ _ _ _ _ (Takes-no_word bad (word_of k)) (λ i. refl))))
+        (Takes-last bad _ (Takes-no_word bad (word_of k)) (λ i. refl))))
     Takes-key_lines (x ∷ xs) found zero enough = let no : ⊥ = omega (arith, enough) in absurd no
     Takes-key_lines (x ∷ xs) found (suc n) enough =
         subst (Reads found (x ∷ xs)) (sym (goes n found))
-        (Takes-value bad _ _ _ _ _ (append_assoc found (x ∷ []) xs)
+        (Takes-value bad (append_assoc found (x ∷ []) xs)
         (Takes-as bad (one (Word (word_of k)) ▸ (L found x ▸ B (found ++ x ∷ []) xs)) (B found (x ∷ xs)) (AfterLines bad r) (AfterLines bad r) (eat_word (word_of k) >>= more_by n found) ((found ++ x ∷ []) ++ xs) (apart found x xs) (λ rest a. a)
-        (Takes-then bad _ _ _ _ _ _ _ (Takes-eat_word bad (word_of k)) (Takes-bind bad _ _ _ _ _ _ _ _ (line_takes found x)
+        (Takes-then bad _ (Takes-eat_word bad (word_of k)) (Takes-bind bad _ (line_takes found x)
         (Takes-key_lines xs (found ++ x ∷ []) n (omega (arith, enough))) (λ back rest h after. fresh_before bad back rest after.fresh)))))
 
   module _ (names : Names) (k : Key) (r : ℕ) (below : rank_of (word_of k) < r) where

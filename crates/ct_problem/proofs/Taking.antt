@@ -37,30 +37,30 @@ module _ (bad : Option ℕ) where
     pub Takes-as : (L M F G : Texts) (p : Parser A) (x : A) → ((ls : List Lexeme) → M ls → L ls) → ((rest : List Lexeme) → G rest → F rest) → Takes bad p x L F → Takes bad p x M G
     Takes-as L M F G p x spelled allowed t i used rest here e m after = t i used rest here e (spelled used m) (allowed rest after)
 
-    pub Takes-value : (L F : Texts) (p : Parser A) (x y : A) → x ≡ y → Takes bad p x L F → Takes bad p y L F
-    Takes-value L F p x y same t = subst (λ (z : A). Takes bad p z L F) same t
+    pub Takes-value : {L F : Texts} {p : Parser A} {x y : A} → x ≡ y → Takes bad p x L F → Takes bad p y L F
+    Takes-value {L} {F} {p} {x} {y} same t = subst (λ (z : A). Takes bad p z L F) same t
 
-    pub Takes-to_right : (a b c F : Texts) (p : Parser A) (x : A) → Takes bad p x (a ▸ (b ▸ c)) F → Takes bad p x (a ▸ b ▸ c) F
-    Takes-to_right a b c F p x t i used rest here e m after = t i used rest here e (joined_to_right m) after
+    pub Takes-to_right : {a b c F : Texts} {p : Parser A} {x : A} → Takes bad p x (a ▸ (b ▸ c)) F → Takes bad p x (a ▸ b ▸ c) F
+    Takes-to_right {a} {b} {c} {F} {p} {x} t i used rest here e m after = t i used rest here e (joined_to_right m) after
 
   module _ {A B : Type 0} where
-    pub Takes-bind : (x : A) (y : B) (L M G F : Texts) (p : Parser A) (f : A → Parser B) → Takes bad p x L G → Takes bad (f x) y M F → ((back rest : List Lexeme) → M back → F rest → G (back ++ rest)) → Takes bad (p >>= f) y (L ▸ M) F
-    Takes-bind x y L M G F p f first second between i used rest here e h after =
+    pub Takes-bind : {x : A} {y : B} {L M G F : Texts} {p : Parser A} (f : A → Parser B) → Takes bad p x L G → Takes bad (f x) y M F → ((back rest : List Lexeme) → M back → F rest → G (back ++ rest)) → Takes bad (p >>= f) y (L ▸ M) F
+    Takes-bind {x} {y} {L} {M} {G} {F} {p} f first second between i used rest here e h after =
         let split : shown i ≡ h.front ++ (h.back ++ rest) = e ∙ ap (λ ls. ls ++ rest) h.parts ∙ append_assoc h.front h.back rest in
         let t = first i h.front (h.back ++ rest) here split h.first (between h.back rest h.second after) in
         Taken-bind p f i x y (h.back ++ rest) rest t (second t.left h.back rest (t.follows.same_bad ∙ here) t.shows h.second after)
 
     -- where the first rule needs nothing of what comes after it
-    pub Takes-then : (x : A) (y : B) (L M F : Texts) (p : Parser A) (f : A → Parser B) → Takes bad p x L anywhere → Takes bad (f x) y M F → Takes bad (p >>= f) y (L ▸ M) F
-    Takes-then x y L M F p f first second = Takes-bind x y L M anywhere F p f first second (λ back rest m after. tt)
+    pub Takes-then : {x : A} {y : B} {L M F : Texts} {p : Parser A} (f : A → Parser B) → Takes bad p x L anywhere → Takes bad (f x) y M F → Takes bad (p >>= f) y (L ▸ M) F
+    Takes-then {x} {y} {L} {M} {F} {p} f first second = Takes-bind f first second (λ back rest m after. tt)
 
     -- where nothing is done with what the first rule gives
-    pub Takes-next : (x : A) (y : B) (L M F : Texts) (p : Parser A) (q : Parser B) → Takes bad p x L anywhere → Takes bad q y M F → Takes bad (p >> q) y (L ▸ M) F
-    Takes-next x y L M F p q first second = Takes-then x y L M F p (λ _. q) first second
+    pub Takes-next : {x : A} {y : B} {L M F : Texts} {p : Parser A} {q : Parser B} → Takes bad p x L anywhere → Takes bad q y M F → Takes bad (p >> q) y (L ▸ M) F
+    Takes-next {x} {y} {L} {M} {F} {p} {q} first second = Takes-then (λ _. q) first second
 
     -- where the second rule takes nothing
-    pub Takes-last : (x : A) (y : B) (L F : Texts) (p : Parser A) (f : A → Parser B) → Takes bad p x L F → ((i : Input) → f x i ≡ Ok (y, i)) → Takes bad (p >>= f) y L F
-    Takes-last x y L F p f first ends i used rest here e m after =
+    pub Takes-last : {x : A} {y : B} {L F : Texts} {p : Parser A} (f : A → Parser B) → Takes bad p x L F → ((i : Input) → f x i ≡ Ok (y, i)) → Takes bad (p >>= f) y L F
+    Takes-last {x} {y} {L} {F} {p} f first ends i used rest here e m after =
         let t = first i used rest here e m after in
         Taken-bind p f i x y rest rest t (record { left = t.left; reads = ends t.left; shows = t.shows; follows = Follows-same t.left })
 
@@ -107,14 +107,14 @@ module _ (bad : Option ℕ) where
 
   pub Takes-expect : (s : ℕ) → Takes bad (expect s) tt (one (Sign s)) anywhere
   unfolding expect
-  Takes-expect s = Takes-last true tt (one (Sign s)) anywhere (eat s) required (Takes-eat s) (λ i. refl)
+  Takes-expect s = Takes-last required (Takes-eat s) (λ i. refl)
 
   pub Takes-expect_word : (w : List ℕ) → Takes bad (expect_word w) tt (one (Word w)) anywhere
   unfolding expect_word
-  Takes-expect_word w = Takes-last true tt (one (Word w)) anywhere (eat_word w) required (Takes-eat_word w) (λ i. refl)
+  Takes-expect_word w = Takes-last required (Takes-eat_word w) (λ i. refl)
 
   -- where a test fails
-  pub Takes-fault_if : {A : Type 0} (x : A) (L F : Texts) (b : Bool) (kind : BadKind) (p : Parser A) → b ≡ false → Takes bad p x L F → Takes bad (fault_if b kind >> p) x L F
-  Takes-fault_if x L F b kind p passed t i used rest here e u after =
+  pub Takes-fault_if : {A : Type 0} {x : A} {L F : Texts} {b : Bool} (kind : BadKind) {p : Parser A} → b ≡ false → Takes bad p x L F → Takes bad (fault_if b kind >> p) x L F
+  Takes-fault_if {x} {L} {F} {b} kind {p} passed t i used rest here e u after =
       let r = t i used rest here e u after in
       record { left = r.left; reads = ap (λ (c : Bool). (fault_if c kind >> p) i) passed ∙ r.reads; shows = r.shows; follows = r.follows }
