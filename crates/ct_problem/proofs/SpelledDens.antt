@@ -64,11 +64,11 @@ module _ (names : Names) where
       → Goes (one (Word (codes "den")) ▸ grammar.summed names at) (once names given start >> (expect 58 >> (read.value names false >>= (λ x. pure (with_den at x found))))) (OneDen found)
   once_goes found start at true e = λ i j x h. cc
   once_goes found start at false e =
-      Goes-then _ _ (OneDen found) _ _ (Spells-expect 58) (λ _. Goes-bind _ _ (OneDen found) _ _ (Goes-value names false) (λ x.
-      Goes-pure _ (OneDen found) (with_den at x found) (λ ls h. record { line = (at, x); other = e; gives = refl; spelled = h })))
+      Goes-then _ (Spells-expect 58) (λ _. Goes-bind _ (Goes-value names false) (λ x.
+      Goes-pure (OneDen found) (with_den at x found) (λ ls h. record { line = (at, x); other = e; gives = refl; spelled = h })))
 
   after_key : (found : Dens) (start : ℕ) → Goes (one (Word (codes "den"))) (summed_name names >>= (λ at. once names (is_given at found) start >> (expect 58 >> (read.value names false >>= (λ x. pure (with_den at x found)))))) (OneDen found)
-  after_key found start = Goes-then _ _ (OneDen found) _ _ Spells-summed_name (λ at. once_goes found start at (is_given at found) refl)
+  after_key found start = Goes-then _ Spells-summed_name (λ at. once_goes found start at (is_given at found) refl)
 
   den_is : (found : Dens) (i j : Input) (after : Dens) → sees_word (codes "den") i ≡ true → den_line names found i ≡ Ok (after, j) → Going nothing (OneDen found after) i j
   unfolding den_line
@@ -93,7 +93,7 @@ module _ (names : Names) where
 
   one_den : (n : ℕ) (found : Dens) → ((ds : Dens) → Goes nothing (den_lines_from names n ds) (MoreDens ds)) → (ds : Dens) → Goes (OneDen found ds) (den_lines_from names n ds) (MoreDens found)
   one_den n found others ds =
-      Goes-as _ (MoreDens found) _ _ (others ds) (λ dens ls h. let one = h.first in
+      Goes-as (others ds) (λ dens ls h. let one = h.first in
       record {
         lines = one.line ∷ h.second.lines;
         gives = (one.other, subst (λ (es : Dens). grammar.Gives names es h.second.lines dens) one.gives h.second.gives);
@@ -102,18 +102,18 @@ module _ (names : Names) where
 
   line_goes : (n : ℕ) (found : Dens) → ((ds : Dens) → Goes nothing (den_lines_from names n ds) (MoreDens ds)) → (i j : Input) (dens : Dens) (b : Bool) → sees_word (codes "den") i ≡ b
       → cond {A = Parser Dens} b (den_line names found >>= (λ ds. den_lines_from names n ds)) (pure found) i ≡ Ok (dens, j) → Going nothing (MoreDens found dens) i j
-  line_goes n found others i j dens false e h = Goes-pure _ (MoreDens found) found (no_den found) i j dens h
+  line_goes n found others i j dens false e h = Goes-pure (MoreDens found) found (no_den found) i j dens h
   line_goes n found others i j dens true e h =
-      by_whole nothing (OneDen found) (MoreDens found) (λ ds. den_lines_from names n ds) i j dens (den_line names found i) (λ x k read. den_is found i k x e read) (one_den n found others) h
+      by_whole (λ ds. den_lines_from names n ds) i j dens (den_line names found i) (λ x k read. den_is found i k x e read) (one_den n found others) h
 
   Goes-lines : (n : ℕ) (found : Dens) → Goes nothing (den_lines_from names n found) (MoreDens found)
   unfolding den_lines_from
-  Goes-lines zero found = Goes-past_test nothing (MoreDens found) (codes "den") (pure found) (Goes-pure _ (MoreDens found) found (λ ls h. no_den found ls (nothing_joined h)))
+  Goes-lines zero found = Goes-past_test nothing (MoreDens found) (codes "den") (pure found) (Goes-pure (MoreDens found) found (λ ls h. no_den found ls (nothing_joined h)))
   Goes-lines (suc n) found = λ i j dens h. line_goes n found (λ ds. Goes-lines n ds) i j dens (sees_word (codes "den") i) refl h
 
   pub Goes-den_lines : Goes nothing (den_lines names) (grammar.den_lines names)
   unfolding den_lines
   Goes-den_lines =
-      Goes-as _ (grammar.den_lines names) _ _
+      Goes-as
       (Goes-lines (max 1 (length (summed_texts names.variables))) (no_dens names.variables)) (λ dens ls h. let m = nothing_joined h in
       record { lines = m.lines; gives = m.gives; spelled = m.spelled })

@@ -166,9 +166,9 @@ module _ (names : Names) where
   pub Goes-definition : Goes (one (Word (codes "let"))) (definition names) (lets.let_line names)
   unfolding definition Form
   Goes-definition =
-      Goes-then _ _ (lets.let_line names) _ _ (Spells-new_name names) (λ text. Goes-then _ _ (lets.let_line names) _ _ (Spells-expect 61) (λ _.
-      Goes-then _ _ (lets.let_line names) _ _ Spells-let_form (λ f. Goes-bind _ _ (lets.let_line names) _ _ Goes-line_end (λ _.
-      Goes-pure _ (lets.let_line names) (record { text = text; form = f }) (λ ls h. h)))))
+      Goes-then _ (Spells-new_name names) (λ text. Goes-then _ (Spells-expect 61) (λ _.
+      Goes-then _ Spells-let_form (λ f. Goes-bind _ Goes-line_end (λ _.
+      Goes-pure (lets.let_line names) (record { text = text; form = f }) (λ ls h. h)))))
 
 -- ---- lines
 

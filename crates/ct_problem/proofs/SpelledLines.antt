@@ -19,8 +19,8 @@ use Rattle.ct_problem.proofs.SpelledRuns.{Goes, Goes-pure, Goes-look, Goes-fault
 pub Goes-header : (kind : List ℕ) → Goes nothing (read.header kind) (λ _. header kind)
 unfolding read.header
 Goes-header kind =
-    Goes-begin _ H _ _ (Spells-expect_word (codes "mgfun")) (λ _. Goes-then _ _ H _ _ (Spells-expect_word kind) (λ _.
-    Goes-then _ _ H _ _ (Spells-exactly 1 (omega arith)) (λ _. Goes-as _ H _ _ Goes-line_end (λ x ls h. h))))
+    Goes-begin _ (Spells-expect_word (codes "mgfun")) (λ _. Goes-then _ (Spells-expect_word kind) (λ _.
+    Goes-then _ (Spells-exactly 1 (omega arith)) (λ _. Goes-as Goes-line_end (λ x ls h. h))))
   where
     H : Unit {0} → Texts
     H _ = header kind
@@ -28,41 +28,41 @@ Goes-header kind =
 -- a test that takes nothing
 pub Goes-no_more : (key : List ℕ) → Goes nothing (read.no_more key) (λ _. nothing)
 unfolding read.no_more
-Goes-no_more key = Goes-whole _ _ N _ _ (Goes-look nothing (λ _. nothing) (sees_word key) (λ x ls h. h)) by
+Goes-no_more key = Goes-whole _ (Goes-look (sees_word key) (λ x ls h. h)) by
   where
     N : Unit {0} → Texts
     N _ = nothing
 
     by : (more : Bool) → Goes nothing (fault_if more TooMany) N
-    by true = Goes-fault nothing N TooMany
-    by false = Goes-pure _ N tt (λ ls h. h)
+    by true = Goes-fault N TooMany
+    by false = Goes-pure N tt (λ ls h. h)
 
 -- the rest of the lines, past such a test
 pub Goes-past_test : {A : Type 0} (D : Texts) (L : A → Texts) (key : List ℕ) (p : Parser A) → Goes (D ▸ nothing) p L → Goes D (read.no_more key >> p) L
-Goes-past_test D L key p rest = Goes-bind _ _ L _ _ (Goes-no_more key) (λ _. rest)
+Goes-past_test D L key p rest = Goes-bind _ (Goes-no_more key) (λ _. rest)
 
 module _ (names : Names) where
   -- the end of a line, and a value that is known
   pub Goes-ended : {A : Type 0} (D : Texts) (L : A → Texts) (x : A) → ((ls : List Lexeme) → (D ▸ one LineEnd) ls → L x ls) → Goes D (line_end >> pure x) L
-  Goes-ended D L x h = Goes-bind _ _ L _ _ Goes-line_end (λ _. Goes-pure _ L x h)
+  Goes-ended D L x h = Goes-bind _ Goes-line_end (λ _. Goes-pure L x h)
 
   pub Goes-value : (operators : Bool) → Goes nothing (read.value names operators) (value names operators)
   unfolding read.value
   Goes-value operators =
-      Goes-begin _ (value names operators) _ _ (Spells-expression names operators) (λ x.
+      Goes-begin _ (Spells-expression names operators) (λ x.
       Goes-ended (IsExpression names operators x) (value names operators) x (λ ls h. h))
 
   pub Goes-keyed : (key : List ℕ) (operators : Bool) → Goes nothing (rules.keyed names key operators) (keyed names key operators)
   unfolding rules.keyed
   Goes-keyed key operators =
-      Goes-begin _ (keyed names key operators) _ _ (Spells-expect_word key) (λ _.
-      Goes-as _ (keyed names key operators) _ _ (Goes-value operators) (λ x ls h. h))
+      Goes-begin _ (Spells-expect_word key) (λ _.
+      Goes-as (Goes-value operators) (λ x ls h. h))
 
   pub Goes-part : (key text : List ℕ) (operators : Bool) → Goes nothing (read.part names key text operators) (part names key operators text)
   unfolding read.part
   Goes-part key text operators =
-      Goes-begin _ L _ _ (Spells-expect_word key) (λ _. Goes-then _ _ L _ _ (Spells-expect_word text) (λ _.
-      Goes-then _ _ L _ _ (Spells-expect 58) (λ _. Goes-as _ L _ _ (Goes-value operators) (λ x ls h. h))))
+      Goes-begin _ (Spells-expect_word key) (λ _. Goes-then _ (Spells-expect_word text) (λ _.
+      Goes-then _ (Spells-expect 58) (λ _. Goes-as (Goes-value operators) (λ x ls h. h))))
     where
       L : Expr → Texts
       L = part names key operators text

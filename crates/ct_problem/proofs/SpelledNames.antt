@@ -115,12 +115,12 @@ module _ (found : List Naming) (text : List ℕ) where
     ended : (D : Texts) (action : Action) → HasRoom found action (role_of_line line) → ((ls : List Lexeme) → (D ▸ one LineEnd) ls → grammar.name_line found action (role_of_line line) text ls)
         → Goes D (line_end >> pure (record { text = text; action = action; role = role_of_line line })) (Line found)
     ended D action room h =
-        Goes-bind _ _ (Line found) _ _ Goes-line_end (λ _.
-        Goes-pure _ (Line found) (record { text = text; action = action; role = role_of_line line }) (λ ls k. record { room = room; spelled = h ls k }))
+        Goes-bind _ Goes-line_end (λ _.
+        Goes-pure (Line found) (record { text = text; action = action; role = role_of_line line }) (λ ls k. record { room = room; spelled = h ls k }))
 
   after_text : (line : NameLine) → is_full line found ≡ false → Goes (Head line) (action_of_line line >>= (λ action. line_end >> pure (record { text = text; action = action; role = role_of_line line }))) (Line found)
   unfolding FreeAction Head
-  after_text Free full = Goes-then _ _ (Line found) _ _ Spells-free_action by
+  after_text Free full = Goes-then _ Spells-free_action by
     where
       by : (action : Action) → Goes (Head Free ▸ FreeAction action) (line_end >> pure (record { text = text; action = action; role = role_of_line Free })) (Line found)
       by Shift = ended Free (Head Free ▸ FreeAction Shift) Shift (room_is found Shift Free refl full) (λ ls h. h)
@@ -133,7 +133,7 @@ module _ (found : List Naming) (text : List ℕ) where
 module _ (found : List Naming) where
   after_key : (line : NameLine) → is_full line found ≡ false → Goes (one (Word (key_of line))) (new_name (declared found) >>= (λ text. action_of_line line >>= (λ action. line_end >> pure (record { text = text; action = action; role = role_of_line line })))) (Line found)
   unfolding Head
-  after_key line full = Goes-then _ _ (Line found) _ _ (Spells-new_name (declared found)) (λ text. after_text found text line full)
+  after_key line full = Goes-then _ (Spells-new_name (declared found)) (λ text. after_text found text line full)
 
   -- a name line, where its first word comes next
   declared_is : (line : NameLine) (i j : Input) (n : Naming) → name_line i ≡ Some line → declaration line found i ≡ Ok (n, j) → Going nothing (Line found n) i j
@@ -168,7 +168,7 @@ Names_after n found = More (Lines n found) found
 full_goes : (found : List Naming) (o : Option NameLine) → Goes nothing (full_by found o) (Names_after 0 found)
 unfolding Names_after
 full_goes found None = Goes-found nothing (Lines 0 found) found (no_name 0 found)
-full_goes found (Some line) = Goes-fault_if nothing (More (Lines 0 found) found) true TooMany (pure found) (λ h. absurd (false≢true (sym h)))
+full_goes found (Some line) = Goes-fault_if true TooMany (pure found) (λ h. absurd (false≢true (sym h)))
 
 one_name : (n : ℕ) (found : List Naming) (x : Naming) → Goes nothing (declarations_from n (found ++ x ∷ [])) (Names_after n (found ++ x ∷ [])) → Goes (Line found x) (declarations_from n (found ++ x ∷ [])) (Names_after (suc n) found)
 unfolding Names_after
@@ -182,11 +182,11 @@ line_goes : (n : ℕ) (found : List Naming) → ((x : Naming) → Goes nothing (
 unfolding Names_after
 line_goes n found others i j ns None e h = Goes-found nothing (Lines (suc n) found) found (no_name (suc n) found) i j ns h
 line_goes n found others i j ns (Some line) e h =
-    by_whole nothing (Line found) (More (Lines (suc n) found) found) (λ naming. declarations_from n (found ++ naming ∷ [])) i j ns (declaration line found i) (λ x k read. declared_is found line i k x e read) (λ x. one_name n found x (others x)) h
+    by_whole (λ naming. declarations_from n (found ++ naming ∷ [])) i j ns (declaration line found i) (λ x k read. declared_is found line i k x e read) (λ x. one_name n found x (others x)) h
 
 Goes-lines : (n : ℕ) (found : List Naming) → Goes nothing (declarations_from n found) (Names_after n found)
 unfolding declarations_from Names_after
-Goes-lines zero found = Goes-seen nothing (More (Lines 0 found) found) name_line (full_by found) (full_goes found)
+Goes-lines zero found = Goes-seen name_line (full_by found) (full_goes found)
 Goes-lines (suc n) found = λ i j ns h. line_goes n found (λ x. Goes-lines n (found ++ x ∷ [])) i j ns (name_line i) refl h
 
 -- the lines of as many names as there may be
@@ -196,11 +196,11 @@ pub record FewNames (ns : List Naming) (ls : List Lexeme) : Type 0 where
 
 pub Goes-declarations : Goes nothing declarations FewNames
 unfolding declarations Names_after
-Goes-declarations = Goes-whole _ _ FewNames _ _ (Goes-all (Lines 6 []) (declarations_from 6 []) (Goes-lines 6 [])) by
+Goes-declarations = Goes-whole _ (Goes-all (Lines 6 []) (declarations_from 6 []) (Goes-lines 6 [])) by
   where
     by : (ns : List Naming) → Goes (Lines 6 [] ns) (some_names ns) FewNames
-    by [] = Goes-fault (Lines 6 [] []) FewNames Syntax
-    by (n ∷ ns) = Goes-pure _ FewNames (n ∷ ns) (λ ls h.
+    by [] = Goes-fault FewNames Syntax
+    by (n ∷ ns) = Goes-pure FewNames (n ∷ ns) (λ ls h.
         let few = h.few in
         let within = rooms_fit [] (n ∷ ns) h.rooms (record { operators = omega arith; summed = omega arith }) in
         let summed = within.summed in

@@ -36,13 +36,13 @@ module _ (names : Names) where
   Goes-used : Goes (one (Word (codes "use"))) (used names) These
   unfolding used These
   Goes-used =
-      Goes-then _ _ These _ _ (Spells-list_name names) (λ at. Goes-bind _ _ These _ _ Goes-line_end (λ _.
-      Goes-past_test (one (Word (codes "use")) ▸ lets.list names at ▸ one LineEnd) These (codes "use") (pure (Named at)) (Goes-pure _ These (Named at) (λ ls h. joined_nothing h))))
+      Goes-then _ (Spells-list_name names) (λ at. Goes-bind _ Goes-line_end (λ _.
+      Goes-past_test (one (Word (codes "use")) ▸ lets.list names at ▸ one LineEnd) These (codes "use") (pure (Named at)) (Goes-pure These (Named at) (λ ls h. joined_nothing h))))
 
   listed_or : (xs : List Expr) → Goes (grammar.values names (codes "gen") xs) (listed_or_used names xs) These
   unfolding These
   listed_or [] =
-      Goes-then _ _ These _ _ (Spells-eat_word (codes "use")) by
+      Goes-then _ (Spells-eat_word (codes "use")) by
     where
       by : (b : Bool) → Goes (grammar.values names (codes "gen") [] ▸ optional (Word (codes "use")) b) (cond b (used names) (pure (Listed []))) These
       by true i j g e =
@@ -51,12 +51,12 @@ module _ (names : Names) where
         where
           alone : (ls : List Lexeme) → (grammar.values names (codes "gen") [] ▸ one (Word (codes "use"))) ls → one (Word (codes "use")) ls
           alone ls h = nothing_joined {a = one (Word (codes "use"))} (record { front = h.front; back = h.back; parts = h.parts; first = h.first.1; second = h.second })
-      by false i j g e = Goes-pure _ These (Listed []) (λ ls h. joined_nothing h) i j g e
-  listed_or (x ∷ xs) = Goes-pure _ These (Listed (x ∷ xs)) (λ ls h. h)
+      by false i j g e = Goes-pure These (Listed []) (λ ls h. joined_nothing h) i j g e
+  listed_or (x ∷ xs) = Goes-pure These (Listed (x ∷ xs)) (λ ls h. h)
 
   pub Goes-generators : Goes nothing (generators names) (grammar.generators names)
   unfolding generators These
-  Goes-generators = Goes-whole _ _ These _ _ (Goes-value_lines names (codes "gen")) listed_or
+  Goes-generators = Goes-whole _ (Goes-value_lines names (codes "gen")) listed_or
 
 -- ---- ranges
 
@@ -82,16 +82,16 @@ Spells-range limit =
 pub Goes-range_line : (key : List ℕ) (limit : ℕ) → Goes nothing (range_line key limit) (grammar.range_line key limit)
 unfolding range_line
 Goes-range_line key limit =
-    Goes-begin _ L _ _ (Spells-eat_word key) by
+    Goes-begin _ (Spells-eat_word key) by
   where
     L : Option Range → Texts
     L = grammar.range_line key limit
 
     by : (b : Bool) → Goes (optional (Word key) b) (cond b (range limit >>= (λ r. line_end >> (no_more key >> pure (Some r)))) (pure None)) L
     by true =
-        Goes-then _ _ L _ _ (Spells-range limit) (λ r. Goes-bind _ _ L _ _ Goes-line_end (λ _.
-        Goes-past_test (one (Word key) ▸ grammar.range limit r ▸ one LineEnd) L key (pure (Some r)) (Goes-pure _ L (Some r) (λ ls h. joined_nothing h))))
-    by false = Goes-pure _ L None (λ ls h. h)
+        Goes-then _ (Spells-range limit) (λ r. Goes-bind _ Goes-line_end (λ _.
+        Goes-past_test (one (Word key) ▸ grammar.range limit r ▸ one LineEnd) L key (pure (Some r)) (Goes-pure L (Some r) (λ ls h. joined_nothing h))))
+    by false = Goes-pure L None (λ ls h. h)
 
 -- ---- the lines before the last one
 
@@ -103,9 +103,9 @@ pub record Head (h : List Naming × List Definition) (ls : List Lexeme) : Type 0
 pub Goes-head : Goes nothing head Head
 unfolding head
 Goes-head =
-    Goes-whole _ _ Head _ _ Goes-fresh_line (λ _. Goes-whole _ _ Head _ _ (Goes-header (codes "problem")) (λ _.
-    Goes-bind _ _ Head _ _ Goes-declarations (λ variables. Goes-bind _ _ Head _ _ (Goes-let_lines variables) (λ definitions.
-    Goes-pure _ Head (variables, definitions) (λ ls h. record {
+    Goes-whole _ Goes-fresh_line (λ _. Goes-whole _ (Goes-header (codes "problem")) (λ _.
+    Goes-bind _ Goes-declarations (λ variables. Goes-bind _ (Goes-let_lines variables) (λ definitions.
+    Goes-pure Head (variables, definitions) (λ ls h. record {
       few = h.first.second.few;
       spelled = on_first (λ ms. on_second (λ ns k. k.spelled)) h;
     })))))
@@ -118,10 +118,10 @@ pub record Before (p : Reading) (ls : List Lexeme) : Type 0 where
 pub Goes-body : (h : List Naming × List Definition) → Goes (Head h) (body h.0 h.1) Before
 unfolding body
 Goes-body h =
-    Goes-bind _ _ Before _ _ (Goes-generators names) (λ gens. Goes-bind _ _ Before _ _ (Goes-den_lines names) (λ dens.
-    Goes-bind _ _ Before _ _ (Goes-value_lines names (codes "target")) (λ targets.
-    Goes-bind _ _ Before _ _ (Goes-range_line (codes "order") 8) (λ orders. Goes-bind _ _ Before _ _ (Goes-range_line (codes "degree") 12) (λ degrees.
-    Goes-pure _ Before
+    Goes-bind _ (Goes-generators names) (λ gens. Goes-bind _ (Goes-den_lines names) (λ dens.
+    Goes-bind _ (Goes-value_lines names (codes "target")) (λ targets.
+    Goes-bind _ (Goes-range_line (codes "order") 8) (λ orders. Goes-bind _ (Goes-range_line (codes "degree") 12) (λ degrees.
+    Goes-pure Before
     (record { variables = h.0; definitions = h.1; generators = gens; dens = dens; targets = targets; orders = orders; degrees = degrees }) (λ ls k. record {
       few = k.first.first.first.first.first.few;
       spelled = on_first (λ a1. on_first (λ a2. on_first (λ a3. on_first (λ a4. on_first (λ a5 m. m.spelled))))) k;

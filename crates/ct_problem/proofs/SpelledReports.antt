@@ -27,23 +27,23 @@ Place p = found_line p.0 p.1 p.2
 pub Goes-found_line : Goes nothing rules.found_line Place
 unfolding rules.found_line
 Goes-found_line =
-    Goes-begin _ Place _ _ (Spells-numbered (codes "found")) (λ index. Goes-then _ _ Place _ _ (Spells-numbered (codes "order")) (λ order.
-    Goes-then _ _ Place _ _ (Spells-numbered (codes "degree")) (λ degree. Goes-bind _ _ Place _ _ Goes-line_end (λ _.
-    Goes-pure _ Place (index, order, degree) (λ ls h. h)))))
+    Goes-begin _ (Spells-numbered (codes "found")) (λ index. Goes-then _ (Spells-numbered (codes "order")) (λ order.
+    Goes-then _ (Spells-numbered (codes "degree")) (λ degree. Goes-bind _ Goes-line_end (λ _.
+    Goes-pure Place (index, order, degree) (λ ls h. h)))))
 
 module _ (names : Names) where
   Goes-quotient : (text : List ℕ) → Goes nothing (rules.quotient names text) (quotient names text)
   unfolding rules.quotient
   Goes-quotient text =
-      Goes-whole _ _ (quotient names text) _ _ (Goes-part names (codes "numerator") text true) (λ numerator.
-      Goes-bind _ _ (quotient names text) _ _ (Goes-part names (codes "denominator") text false) (λ denominator.
-      Goes-pure _ (quotient names text) (record { numerator = numerator; denominator = denominator }) (λ ls h. h)))
+      Goes-whole _ (Goes-part names (codes "numerator") text true) (λ numerator.
+      Goes-bind _ (Goes-part names (codes "denominator") text false) (λ denominator.
+      Goes-pure (quotient names text) (record { numerator = numerator; denominator = denominator }) (λ ls h. h)))
 
   Goes-quotients_from : (texts : List (List ℕ)) (found : List Quotient) → Goes nothing (rules.quotients_from names texts found) (More (each_with (quotient names) texts) found)
   unfolding rules.quotients_from
   Goes-quotients_from [] found = Goes-found nothing (each_with (quotient names) []) found (λ ls h. h)
   Goes-quotients_from (text ∷ texts) found =
-      Goes-whole _ _ (More (each_with (quotient names) (text ∷ texts)) found) _ _ (Goes-quotient text) (λ q.
+      Goes-whole _ (Goes-quotient text) (λ q.
       Goes-one (quotient names text q) (each_with (quotient names) (text ∷ texts)) (each_with (quotient names) texts) found q (rules.quotients_from names texts (found ++ q ∷ [])) (λ xs ls h. h) (Goes-quotients_from texts (found ++ q ∷ [])))
 
   pub Goes-quotients : (texts : List (List ℕ)) → Goes nothing (rules.quotients_from names texts []) (each_with (quotient names) texts)
@@ -53,7 +53,7 @@ module _ (names : Names) where
   unfolding rules.factors_of
   Goes-factors_of [] found = Goes-found nothing (each_with (part names (codes "part") false) []) found (λ ls h. h)
   Goes-factors_of (text ∷ texts) found =
-      Goes-whole _ _ (More (each_with (part names (codes "part") false) (text ∷ texts)) found) _ _ (Goes-part names (codes "part") text false) (λ x.
+      Goes-whole _ (Goes-part names (codes "part") text false) (λ x.
       Goes-one (part names (codes "part") false text x) (each_with (part names (codes "part") false) (text ∷ texts)) (each_with (part names (codes "part") false) texts) found x (rules.factors_of names texts (found ++ x ∷ [])) (λ xs ls h. h) (Goes-factors_of texts (found ++ x ∷ [])))
 
   pub Goes-factors : (texts : List (List ℕ)) → Goes nothing (rules.factors_of names texts []) (each_with (part names (codes "part") false) texts)
@@ -62,9 +62,9 @@ module _ (names : Names) where
   Goes-cofactor : (place : ℕ) → place ≤ largest_norm → Goes nothing (rules.cofactor names place) (cofactor names place)
   unfolding rules.cofactor
   Goes-cofactor place low =
-      Goes-begin _ (cofactor names place) _ _ (Spells-expect_word (codes "cofactor")) (λ _.
-      Goes-then _ _ (cofactor names place) _ _ (Spells-exactly place low) (λ _. Goes-then _ _ (cofactor names place) _ _ (Spells-expect 58) (λ _.
-      Goes-as _ (cofactor names place) _ _ (Goes-value names true) (λ x ls h. h))))
+      Goes-begin _ (Spells-expect_word (codes "cofactor")) (λ _.
+      Goes-then _ (Spells-exactly place low) (λ _. Goes-then _ (Spells-expect 58) (λ _.
+      Goes-as (Goes-value names true) (λ x ls h. h))))
 
   -- so many cofactors, from this number on
   abbrev CofactorsFrom : ℕ → ℕ → List Expr → Texts
@@ -77,7 +77,7 @@ module _ (names : Names) where
   unfolding rules.cofactors_from
   Goes-cofactors_from place zero found low = Goes-found nothing (CofactorsFrom place 0) found (λ ls h. (refl, h))
   Goes-cofactors_from place (suc n) found low =
-      Goes-whole _ _ (More (CofactorsFrom place (suc n)) found) _ _ (Goes-cofactor place (omega (arith, low))) (λ x.
+      Goes-whole _ (Goes-cofactor place (omega (arith, low))) (λ x.
       Goes-one (cofactor names place x) (CofactorsFrom place (suc n)) (CofactorsFrom (place + 1) n) found x (rules.cofactors_from names (place + 1) n (found ++ x ∷ [])) (λ xs ls h. (ap suc h.second.0, replaced h h.second.1))
       (Goes-cofactors_from (place + 1) n (found ++ x ∷ []) (omega (arith, low))))
 

@@ -31,7 +31,7 @@ goes_on_before i j f left none = left (by f.front (sym f.parts ∙ none))
     by [] e = e
     by (t ∷ ts) e = cc
 
-module _ {A : Type 0} (D : Texts) (L : A → Texts) where
+module _ {A : Type 0} {D : Texts} (L : A → Texts) where
   gone : (x y : A) (i j : Input) → ◌≡◌ {A = Outcome A} (Ok (x, i)) (Ok (y, j)) → Going D (L x) i i → Going D (L y) i j
   gone x y i j e g =
       let pairs : ◌≡◌ {A = A × Input} (x, i) (y, j) = cc in
@@ -43,15 +43,16 @@ module _ {A : Type 0} (D : Texts) (L : A → Texts) where
     spelled = λ before d left. record { used = []; parts = refl; spells = subst (L x) (sym (append-nil before)) (h before d); follows = Follows-same i };
   })
 
-  pub Goes-look : (g : Input → A) → ((x : A) (ls : List Lexeme) → D ls → L x ls) → Goes D (look g) L
-  Goes-look g h i j y e = Goes-pure (g i) (h (g i)) i j y e
-
   pub Goes-fault : (kind : BadKind) → Goes D (fault kind) L
   Goes-fault kind i j y e = cc
 
+module _ {A : Type 0} {D : Texts} {L : A → Texts} where
+  pub Goes-look : (g : Input → A) → ((x : A) (ls : List Lexeme) → D ls → L x ls) → Goes D (look g) L
+  Goes-look g h i j y e = Goes-pure L (g i) (h (g i)) i j y e
+
   -- a rule of its own comes last
-  pub Goes-last : (M : A → Texts) (p : Parser A) → Spells p M → ((x : A) (ls : List Lexeme) → (D ▸ M x) ls → L x ls) → Goes D p L
-  Goes-last M p last h i j x e =
+  pub Goes-last : {M : A → Texts} {p : Parser A} → Spells p M → ((x : A) (ls : List Lexeme) → (D ▸ M x) ls → L x ls) → Goes D p L
+  Goes-last last h i j x e =
       let s = last i j x e in
       record {
         follows = s.follows;
@@ -59,8 +60,8 @@ module _ {A : Type 0} (D : Texts) (L : A → Texts) where
       }
 
   -- rules that go on come last
-  pub Goes-as : (M : A → Texts) (p : Parser A) → Goes nothing p M → ((x : A) (ls : List Lexeme) → (D ▸ M x) ls → L x ls) → Goes D p L
-  Goes-as M p last h i j x e =
+  pub Goes-as : {M : A → Texts} {p : Parser A} → Goes nothing p M → ((x : A) (ls : List Lexeme) → (D ▸ M x) ls → L x ls) → Goes D p L
+  Goes-as last h i j x e =
       let g = last i j x e in
       record {
         follows = g.follows;
@@ -76,7 +77,7 @@ module _ {A : Type 0} (D : Texts) (L : A → Texts) where
   Goes-seen g f each i j x e = each (g i) i j x e
 
 -- one rule after the other, where what was taken stands for the whole of what the first gives
-module _ {A B : Type 0} (D : Texts) (M : A → Texts) (L : B → Texts) where
+module _ {A B : Type 0} {D : Texts} {M : A → Texts} {L : B → Texts} where
   pub by_whole : (f : A → Parser B) (i j : Input) (y : B) (o : Outcome A) → ((x : A) (k : Input) → o ≡ Ok (x, k) → Going D (M x) i k) → ((x : A) → Goes (M x) (f x) L)
       → and_then o f ≡ Ok (y, j) → Going D (L y) i j
   by_whole f i j y (Err fault) first second e = cc
@@ -96,21 +97,21 @@ module _ {A B : Type 0} (D : Texts) (M : A → Texts) (L : B → Texts) where
             };
       }
 
-  pub Goes-whole : (p : Parser A) (f : A → Parser B) → Goes D p M → ((x : A) → Goes (M x) (f x) L) → Goes D (p >>= f) L
-  Goes-whole p f first second i j y e = by_whole f i j y (p i) (λ x k h. first i k x h) second e
+  pub Goes-whole : {p : Parser A} (f : A → Parser B) → Goes D p M → ((x : A) → Goes (M x) (f x) L) → Goes D (p >>= f) L
+  Goes-whole {p} f first second i j y e = by_whole f i j y (p i) (λ x k h. first i k x h) second e
 
-module _ {A B : Type 0} (D : Texts) (M : A → Texts) (L : B → Texts) where
-  pub Goes-bind : (p : Parser A) (f : A → Parser B) → Goes nothing p M → ((x : A) → Goes (D ▸ M x) (f x) L) → Goes D (p >>= f) L
-  Goes-bind p f first second = Goes-whole D (λ x. D ▸ M x) L p f (Goes-as D (λ x. D ▸ M x) M p first (λ x ls h. h)) second
+module _ {A B : Type 0} {D : Texts} {M : A → Texts} {L : B → Texts} where
+  pub Goes-bind : {p : Parser A} (f : A → Parser B) → Goes nothing p M → ((x : A) → Goes (D ▸ M x) (f x) L) → Goes D (p >>= f) L
+  Goes-bind f first second = Goes-whole f (Goes-as first (λ x ls h. h)) second
 
   -- the same, where the first rule is one of its own
-  pub Goes-then : (p : Parser A) (f : A → Parser B) → Spells p M → ((x : A) → Goes (D ▸ M x) (f x) L) → Goes D (p >>= f) L
-  Goes-then p f first second = Goes-whole D (λ x. D ▸ M x) L p f (Goes-last D (λ x. D ▸ M x) M p first (λ x ls h. h)) second
+  pub Goes-then : {p : Parser A} (f : A → Parser B) → Spells p M → ((x : A) → Goes (D ▸ M x) (f x) L) → Goes D (p >>= f) L
+  Goes-then f first second = Goes-whole f (Goes-last first (λ x ls h. h)) second
 
-module _ {A B : Type 0} (M : A → Texts) (L : B → Texts) where
+module _ {A B : Type 0} {M : A → Texts} {L : B → Texts} where
   -- the same, where nothing stands before
-  pub Goes-begin : (p : Parser A) (f : A → Parser B) → Spells p M → ((x : A) → Goes (M x) (f x) L) → Goes nothing (p >>= f) L
-  Goes-begin p f first second = Goes-whole nothing M L p f (Goes-last nothing M M p first (λ x ls h. nothing_joined h)) second
+  pub Goes-begin : {p : Parser A} (f : A → Parser B) → Spells p M → ((x : A) → Goes (M x) (f x) L) → Goes nothing (p >>= f) L
+  Goes-begin f first second = Goes-whole f (Goes-last first (λ x ls h. nothing_joined h)) second
 
 -- ---- the ends of lines
 

@@ -24,7 +24,7 @@ use Rattle.ct_problem.proofs.SpelledSteps.{first_read}
 
 -- the lines before the last one
 Goes-lines : Goes nothing (head >>= (λ h. body h.0 h.1)) Before
-Goes-lines = Goes-whole _ _ Before _ _ Goes-head Goes-body
+Goes-lines = Goes-whole _ Goes-head Goes-body
 
 -- the tokens of a problem that is read, up to this place
 pub record IsRead (command : Command) (p : Reading) (i : Input) (at : ℕ) : Type 0 where
