@@ -1,6 +1,5 @@
 -- What is read as a line, or as a list of lines, is spelled so.
 use Rattle.std.proofs.Common.{ℕ, Bool, true, false, List, arith, codes}
-use Rattle.ct_expr.specs.declared.expr.Expr.{Expr}
 use Rattle.ct_problem.specs.declared.fault.BadKind.TheVariants.{TooMany}
 use Rattle.ct_problem.specs.Input.{Parser, ◌>>◌, pure, sees_word, line_end}
 use Rattle.ct_problem.specs.Number.{fault_if}
@@ -21,9 +20,6 @@ unfolding read.header
 Goes-header kind =
     Goes-begin _ (Spells-expect_word (codes "mgfun")) (λ _. Goes-then _ (Spells-expect_word kind) (λ _.
     Goes-then _ (Spells-exactly 1 (omega arith)) (λ _. Goes-as Goes-line_end (λ x ls h. h))))
-  where
-    H : Unit {0} → Texts
-    H _ = header kind
 
 -- a test that takes nothing
 pub Goes-no_more : (key : List ℕ) → Goes nothing (read.no_more key) (λ _. nothing)
@@ -49,20 +45,15 @@ module _ (names : Names) where
   pub Goes-value : (operators : Bool) → Goes nothing (read.value names operators) (value names operators)
   unfolding read.value
   Goes-value operators =
-      Goes-begin _ (Spells-expression names operators) (λ x.
-      Goes-ended (IsExpression names operators x) (value names operators) x (λ ls h. h))
+      Goes-begin _ (Spells-expression names operators) (λ x. Goes-ended (IsExpression names operators x) (value names operators) x (λ ls h. h))
 
   pub Goes-keyed : (key : List ℕ) (operators : Bool) → Goes nothing (rules.keyed names key operators) (keyed names key operators)
   unfolding rules.keyed
   Goes-keyed key operators =
-      Goes-begin _ (Spells-expect_word key) (λ _.
-      Goes-as (Goes-value operators) (λ x ls h. h))
+      Goes-begin _ (Spells-expect_word key) (λ _. Goes-as (Goes-value operators) (λ x ls h. h))
 
   pub Goes-part : (key text : List ℕ) (operators : Bool) → Goes nothing (read.part names key text operators) (part names key operators text)
   unfolding read.part
   Goes-part key text operators =
       Goes-begin _ (Spells-expect_word key) (λ _. Goes-then _ (Spells-expect_word text) (λ _.
       Goes-then _ (Spells-expect 58) (λ _. Goes-as (Goes-value operators) (λ x ls h. h))))
-    where
-      L : Expr → Texts
-      L = part names key operators text

@@ -120,8 +120,7 @@ unfolding body
 Goes-body h =
     Goes-bind _ (Goes-generators names) (λ gens. Goes-bind _ (Goes-den_lines names) (λ dens.
     Goes-bind _ (Goes-value_lines names (codes "target")) (λ targets.
-    Goes-bind _ (Goes-range_line (codes "order") 8) (λ orders. Goes-bind _ (Goes-range_line (codes "degree") 12) (λ degrees.
-    Goes-pure Before
+    Goes-bind _ (Goes-range_line (codes "order") 8) (λ orders. Goes-bind _ (Goes-range_line (codes "degree") 12) (λ degrees. Goes-pure Before
     (record { variables = h.0; definitions = h.1; generators = gens; dens = dens; targets = targets; orders = orders; degrees = degrees }) (λ ls k. record {
       few = k.first.first.first.first.first.few;
       spelled = on_first (λ a1. on_first (λ a2. on_first (λ a3. on_first (λ a4. on_first (λ a5 m. m.spelled))))) k;

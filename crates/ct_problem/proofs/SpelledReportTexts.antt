@@ -96,8 +96,7 @@ Closes-report variables count low =
     Closes-bind _ _ L (rules.quotients_from names summed []) _ (Goes-quotients names summed) (λ quotients.
     Closes-bind _ _ L (rules.keyed names (codes "scale") false) _ (Goes-keyed names (codes "scale") false) (λ scale.
     Closes-bind _ _ L (rules.factors_of names summed []) _ (Goes-factors names summed) (λ factors.
-    Closes-bind _ _ L (rules.cofactors_from names 1 count []) _ (Goes-cofactors names count low) (λ xs.
-    Closes-last _ L
+    Closes-bind _ _ L (rules.cofactors_from names 1 count []) _ (Goes-cofactors names count low) (λ xs. Closes-last _ L
     (record { index = place.0; order = place.1; degree = place.2; telescoper = telescoper; quotients = quotients; scale = scale; factors = factors; cofactors = xs })
     (λ ls h. on_first (λ a1. on_first (λ a2. on_first (λ a3. on_first (λ a4. on_first (λ a5. on_first (λ a6 k. nothing_joined k)))))) h))))))))
   where

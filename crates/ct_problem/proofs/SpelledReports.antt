@@ -28,8 +28,7 @@ pub Goes-found_line : Goes nothing rules.found_line Place
 unfolding rules.found_line
 Goes-found_line =
     Goes-begin _ (Spells-numbered (codes "found")) (λ index. Goes-then _ (Spells-numbered (codes "order")) (λ order.
-    Goes-then _ (Spells-numbered (codes "degree")) (λ degree. Goes-bind _ Goes-line_end (λ _.
-    Goes-pure Place (index, order, degree) (λ ls h. h)))))
+    Goes-then _ (Spells-numbered (codes "degree")) (λ degree. Goes-bind _ Goes-line_end (λ _. Goes-pure Place (index, order, degree) (λ ls h. h)))))
 
 module _ (names : Names) where
   Goes-quotient : (text : List ℕ) → Goes nothing (rules.quotient names text) (quotient names text)
@@ -62,8 +61,7 @@ module _ (names : Names) where
   Goes-cofactor : (place : ℕ) → place ≤ largest_norm → Goes nothing (rules.cofactor names place) (cofactor names place)
   unfolding rules.cofactor
   Goes-cofactor place low =
-      Goes-begin _ (Spells-expect_word (codes "cofactor")) (λ _.
-      Goes-then _ (Spells-exactly place low) (λ _. Goes-then _ (Spells-expect 58) (λ _.
+      Goes-begin _ (Spells-expect_word (codes "cofactor")) (λ _. Goes-then _ (Spells-exactly place low) (λ _. Goes-then _ (Spells-expect 58) (λ _.
       Goes-as (Goes-value names true) (λ x ls h. h))))
 
   -- so many cofactors, from this number on

@@ -45,9 +45,6 @@ module _ (bad : Option ℕ) where
       (Takes-fault_if bad _ no_zero (Takes-last bad (λ _. pure d) (Takes-skip bad (Number d) refl) (λ k. refl)))
       i used rest here e u.1 tt
 
-  abbrev ratio_by : ℕ → Bool → Parser Expr
-  ratio_by n is_ratio = cond is_ratio (divisor >>= (λ d. pure (expr.Ratio (pos n) (pos d)))) (pure (expr.Whole (pos n)))
-
   Takes-whole_number : (n : ℕ) → Takes bad constant (expr.Whole (pos n)) (number largest_norm n) AfterAtom
   unfolding constant
   Takes-whole_number n =

@@ -31,8 +31,7 @@ module _ (bad : Option ℕ) where
       Takes-to_right bad
       (Takes-as bad (nothing ▸ (Header ▸ (Lines ▸ Lets))) (Header ▸ (Lines ▸ Lets)) (AfterLines bad 2) (AfterLines bad 2) head h (λ ls m. record { front = []; back = ls; parts = refl; first = refl; second = m }) (λ rest a. a)
       (Takes-bind bad _ (Takes-fresh_line bad) (Takes-bind bad _ (Takes-header bad (codes "problem"))
-      (Takes-bind bad _ (Takes-declarations bad variables few)
-      (Takes-last bad _ (Takes-let_lines bad variables definitions) (λ k. refl))
+      (Takes-bind bad _ (Takes-declarations bad variables few) (Takes-last bad _ (Takes-let_lines bad variables definitions) (λ k. refl))
       (leads_lets bad variables definitions))
       (λ back rest m a. fresh_before bad back rest a.fresh))
       (λ back rest m a. fresh_before bad back rest a.fresh)))
@@ -89,8 +88,7 @@ module _ (bad : Option ℕ) where
     unfolding body
     Takes-body =
         Takes-bind bad _ (Takes-generators bad names p.generators) (Takes-bind bad _ (Takes-den_lines bad names p.dens)
-        (Takes-bind bad _ Takes-targets
-        (Takes-bind bad _ (Takes-range_line bad starts.Order 7 8 (omega arith) (omega arith) p.orders)
+        (Takes-bind bad _ Takes-targets (Takes-bind bad _ (Takes-range_line bad starts.Order 7 8 (omega arith) (omega arith) p.orders)
         (Takes-last bad _ (Takes-range_line bad starts.Degree 8 12 (omega arith) (omega arith) p.degrees) (λ k. refl))
         leads_degrees) leads_orders) leads_targets) leads_behind_generators
 

@@ -1,13 +1,12 @@
 -- Lexemes that stand for an expression are read as that expression. Main lemma `Takes-expression`, rule by rule.
 use Rattle.std.proofs.Common.{◌≡◌, ℕ, zero, suc, ◌≤◌, ◌||◌, Bool, true, false, cond, List, [], ◌∷◌, ◌++◌, length, map, Option, Some, None, refl, sym, ap, ◌∙◌, subst, arith}
-use Rattle.std.specs.Option.{is_none}
 use Rattle.std.proofs.lemmas.List.{append_assoc, append-nil}
 use Rattle.ct_expr.specs.declared.expr.Expr.{Expr}
 use Rattle.ct_expr.specs.declared.expr.Expr.TheVariants as expr
 use Rattle.ct_expr.specs.declared.expr.Summand.{Summand}
 use Rattle.ct_problem.specs.Input.{Input, Parser, ◌>>=◌, ◌<$>◌, pure, eat, sees}
 use Rattle.ct_problem.specs.Names.{Names}
-use Rattle.ct_problem.specs.Expressions.{summand, joint, is_minus, joins, term, summands_from, summands, sum, nested, expression}
+use Rattle.ct_problem.specs.Expressions.{summand, joint, joins, term, summands_from, summands, sum, nested, expression}
 use Rattle.ct_problem.specs.Lexemes.{Lexeme, Sign, Texts, nothing, one, optional, ◌▸◌, each}
 use Rattle.ct_problem.specs.Grammar.{Term, sum_of, IsTerm, IsSum, IsNested, IsMoreTerm, IsExpression}
 use Rattle.ct_problem.proofs.LexemeSteps.{shown, shows_sign, sees-shown}
@@ -63,9 +62,6 @@ module _ (bad : Option ℕ) (names : Names) where
     terms_after [] back rest h after = subst (λ (ls : List Lexeme). AfterTerm (ls ++ rest)) (sym h) (after_term rest after)
     terms_after (t ∷ more) back rest h after = begun-shows (Sign (cond t.0 45 43)) back rest AfterTerm (joined_to_right h) (sign_after t.0)
 
-    abbrev sign_by : ℕ → List Summand → Option Bool → Parser (List Summand)
-    sign_by n found sign = cond (is_none sign) (pure found) (term names operators inner >>= (λ x. summands_from names operators inner n (found ++ summand (is_minus sign) x ∷ [])))
-
     Takes-summands_from : (more : List Term) (found : List Summand) (n : ℕ) → length more ≤ n → Takes bad (summands_from names operators inner n found) (found ++ made more) (each MoreTerm more) AfterSum
     unfolding summands_from
     Takes-summands_from [] found zero enough = Takes-value bad (sym (append-nil found)) (Takes-pure bad found AfterSum)
@@ -73,8 +69,7 @@ module _ (bad : Option ℕ) (names : Names) where
         Takes-value bad (sym (append-nil found)) (Takes-last bad _ Takes-no_joint (λ k. refl))
     Takes-summands_from (t ∷ more) found zero enough = let no : ⊥ = omega (arith, enough) in absurd no
     Takes-summands_from (t ∷ more) found (suc n) enough =
-        Takes-value bad (append_assoc found (summand t.0 t.1 ∷ []) (made more)) (Takes-to_right bad
-        (Takes-then bad _ (Takes-joint t.0)
+        Takes-value bad (append_assoc found (summand t.0 t.1 ∷ []) (made more)) (Takes-to_right bad (Takes-then bad _ (Takes-joint t.0)
         (Takes-bind bad _ (Takes-term bad names operators inner InParentheses inner_takes inner_opens t.1)
         (Takes-summands_from more (found ++ summand t.0 t.1 ∷ []) n (omega (arith, enough))) (terms_after more))))
 

@@ -69,8 +69,7 @@ module _ (bad : Option ℕ) (names : Names) where
       (λ back rest none a. subst (λ (ls : List Lexeme). AfterSum (ls ++ rest)) (sym none) (ends_sum rest a))
   Takes-listed x (y ∷ more) found (suc n) enough =
       Takes-value bad (append_assoc found (x ∷ []) (y ∷ more)) (Takes-bind bad _ (Takes-expression bad names true x)
-      (Takes-to_right bad (Takes-then bad _ (Takes-eat bad 59)
-      (Takes-listed y more (found ++ x ∷ []) n (omega (arith, enough)))))
+      (Takes-to_right bad (Takes-then bad _ (Takes-eat bad 59) (Takes-listed y more (found ++ x ∷ []) n (omega (arith, enough)))))
       (λ back rest h a. semicolon back rest h))
     where
       semicolon : {b : Texts} (back rest : List Lexeme) → (one (Sign 59) ▸ IsExpression names true y ▸ b) back → AfterSum (back ++ rest)

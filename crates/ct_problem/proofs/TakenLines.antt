@@ -16,8 +16,7 @@ module _ (bad : Option ℕ) where
   pub Takes-header : (kind : List ℕ) → Takes bad (read.header kind) tt (header kind) (IsFresh bad)
   unfolding read.header
   Takes-header kind =
-      Takes-to_right bad (Takes-to_right bad (Takes-next bad (Takes-expect_word bad (codes "mgfun"))
-      (Takes-next bad (Takes-expect_word bad kind)
+      Takes-to_right bad (Takes-to_right bad (Takes-next bad (Takes-expect_word bad (codes "mgfun")) (Takes-next bad (Takes-expect_word bad kind)
       (Takes-next bad (Takes-exactly bad 1 (omega arith)) (Takes-line_end bad)))))
 
   -- the end of a line ends a sum
@@ -28,8 +27,7 @@ module _ (bad : Option ℕ) where
     pub Takes-value_line : (operators : Bool) (x : Expr) → Takes bad (read.value names operators) x (value names operators x) (IsFresh bad)
     unfolding read.value
     Takes-value_line operators x =
-        Takes-bind bad _ (Takes-expression bad names operators x)
-        (Takes-last bad _ (Takes-line_end bad) (λ k. refl)) line_ends_sum
+        Takes-bind bad _ (Takes-expression bad names operators x) (Takes-last bad _ (Takes-line_end bad) (λ k. refl)) line_ends_sum
 
     pub Takes-keyed : (key : List ℕ) (operators : Bool) (x : Expr) → Takes bad (rules.keyed names key operators) x (keyed names key operators x) (IsFresh bad)
     unfolding rules.keyed
@@ -38,6 +36,5 @@ module _ (bad : Option ℕ) where
     pub Takes-part : (key text : List ℕ) (operators : Bool) (x : Expr) → Takes bad (read.part names key text operators) x (part names key operators text x) (IsFresh bad)
     unfolding read.part
     Takes-part key text operators x =
-        Takes-to_right bad (Takes-to_right bad (Takes-next bad (Takes-expect_word bad key)
-        (Takes-next bad (Takes-expect_word bad text)
+        Takes-to_right bad (Takes-to_right bad (Takes-next bad (Takes-expect_word bad key) (Takes-next bad (Takes-expect_word bad text)
         (Takes-next bad (Takes-expect bad 58) (Takes-value_line operators x)))))

@@ -107,15 +107,13 @@ module _ (bad : Option ℕ) where
         → Takes bad (declaration line found) n (one (Word word) ▸ (lets.declared (declared found) text ▸ M)) (IsFresh bad)
     unfolding declaration
     line_taken line word n M room takes =
-        Takes-fault_if bad _ room (Takes-next bad (Takes-skip bad (Word word) refl)
-        (Takes-then bad _ (Takes-new_name (declared found) text) takes))
+        Takes-fault_if bad _ room (Takes-next bad (Takes-skip bad (Word word) refl) (Takes-then bad _ (Takes-new_name (declared found) text) takes))
 
     free_line : (word : List ℕ) (action : Action) → is_full Free found ≡ false → Takes bad free_action action (one (Word word)) anywhere
         → Takes bad (declaration Free found) (record { text = text; action = action; role = role.Free }) (one (Word (codes "free")) ▸ lets.declared (declared found) text ▸ one (Word word) ▸ one LineEnd) (IsFresh bad)
     free_line word action room takes =
         Takes-to_right bad (Takes-to_right bad
-        (line_taken Free (codes "free") n (one (Word word) ▸ one LineEnd) room
-        (Takes-then bad _ takes (Takes-end n))))
+        (line_taken Free (codes "free") n (one (Word word) ▸ one LineEnd) room (Takes-then bad _ takes (Takes-end n))))
       where
         n : Naming
         n = record { text = text; action = action; role = role.Free }

@@ -72,8 +72,7 @@ module _ (bad : Option ℕ) (names : Names) where
   Takes-used : (at : ℕ) → Takes bad (used names) (Named at) (lets.list names at ▸ (one LineEnd ▸ nothing)) (AfterLines bad 4)
   unfolding used
   Takes-used at =
-      Takes-then bad _ (Takes-list_name bad names at)
-      (Takes-bind bad _ (Takes-line_end bad) (Takes-past bad (codes "use") 4 (Named at) (omega arith))
+      Takes-then bad _ (Takes-list_name bad names at) (Takes-bind bad _ (Takes-line_end bad) (Takes-past bad (codes "use") 4 (Named at) (omega arith))
       (λ back rest none after. fresh_before bad back rest after.fresh))
 
   abbrev use_by : Bool → Parser Gens

@@ -45,8 +45,7 @@ module _ (names : Names) where
   Takes-quotients [] (q ∷ more) found = λ i used rest here e u after. absurd u
   Takes-quotients (text ∷ texts) [] found = λ i used rest here e u after. absurd u
   Takes-quotients (text ∷ texts) (q ∷ more) found =
-      Takes-value None (append_assoc found (q ∷ []) more) (Takes-then None _ (Takes-quotient text q)
-      (Takes-quotients texts more (found ++ q ∷ [])))
+      Takes-value None (append_assoc found (q ∷ []) more) (Takes-then None _ (Takes-quotient text q) (Takes-quotients texts more (found ++ q ∷ [])))
 
   Takes-factors_of : (texts : List (List ℕ)) (more found : List Expr) → Takes None (rules.factors_of names texts found) (found ++ more) (each_with (part names (codes "part") false) texts more) anywhere
   unfolding rules.factors_of
@@ -61,8 +60,7 @@ module _ (names : Names) where
   unfolding rules.cofactor
   Takes-cofactor place x low =
       Takes-to_right None (Takes-to_right None (Takes-next None (Takes-expect_word None (codes "cofactor"))
-      (Takes-next None (Takes-exactly None place low)
-      (Takes-next None (Takes-expect None 58) (Takes-value_line None names true x)))))
+      (Takes-next None (Takes-exactly None place low) (Takes-next None (Takes-expect None 58) (Takes-value_line None names true x)))))
 
   Takes-cofactors : (place : ℕ) (more found : List Expr) → place + length more ≤ largest_norm → Takes None (rules.cofactors_from names place (length more) found) (found ++ more) (cofactors names place more) anywhere
   unfolding rules.cofactors_from
@@ -96,15 +94,11 @@ module _ (names : Names) where
 pub Takes-report : (variables : List Naming) (r : Report) → length r.cofactors < largest_norm → Takes None (rules.report variables (length r.cofactors)) r (grammar.report variables r) nothing
 unfolding rules.report
 Takes-report variables r few =
-    Takes-to_right None (Takes-to_right None (Takes-to_right None
-    (Takes-to_right None (Takes-to_right None (Takes-to_right None
-    (Takes-next None (Takes-header None (codes "report"))
-    (Takes-then None _ (Takes-found_line names r.index r.order r.degree)
+    Takes-to_right None (Takes-to_right None (Takes-to_right None (Takes-to_right None (Takes-to_right None (Takes-to_right None
+    (Takes-next None (Takes-header None (codes "report")) (Takes-then None _ (Takes-found_line names r.index r.order r.degree)
     (Takes-then None _ (Takes-keyed None names (codes "telescoper") true r.telescoper)
-    (Takes-then None _ (Takes-quotients names summed r.quotients [])
-    (Takes-then None _ (Takes-keyed None names (codes "scale") false r.scale)
-    (Takes-then None _ (Takes-factors_of names summed r.factors [])
-    (Takes-then None _ (Takes-cofactors names 1 r.cofactors [] (omega (arith, few)))
+    (Takes-then None _ (Takes-quotients names summed r.quotients []) (Takes-then None _ (Takes-keyed None names (codes "scale") false r.scale)
+    (Takes-then None _ (Takes-factors_of names summed r.factors []) (Takes-then None _ (Takes-cofactors names 1 r.cofactors [] (omega (arith, few)))
     (Takes-last None _ (Takes-finish names) (λ k. refl))))))))))))))
   where
     names : Names

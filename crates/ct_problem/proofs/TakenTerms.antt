@@ -72,10 +72,8 @@ module _ (bad : Option ℕ) (names : Names) where
         (λ back rest m after. subst (λ (ls : List Lexeme). AfterAtom (ls ++ rest)) (sym m) after.no_divisor) i used rest here e (to_nothing u) after
     Takes-factor x i used rest here e (IsFactor.power base n value u) after =
         subst (λ (y : Expr). Taken (factor names operators inner) i y rest) (sym value)
-        (Takes-to_right bad
-        (Takes-bind bad _ (Takes-atom bad names operators inner InParentheses inner_takes inner_opens base)
-        (Takes-then bad _ (Takes-eat bad 94)
-        (Takes-last bad _ (Takes-number bad largest_degree n ExponentTooLarge (omega arith)) (λ k. refl)))
+        (Takes-to_right bad (Takes-bind bad _ (Takes-atom bad names operators inner InParentheses inner_takes inner_opens base)
+        (Takes-then bad _ (Takes-eat bad 94) (Takes-last bad _ (Takes-number bad largest_degree n ExponentTooLarge (omega arith)) (λ k. refl)))
         (λ back rest h after. begun-shows (Sign 94) back rest AfterAtom h (λ ls. refl)))
         i used rest here e u tt)
 
