@@ -2,9 +2,9 @@
 ghost use Rattle.std.specs.Prelude.{◌≡◌, ◌++◌, OnOk};
 ghost use Rattle.ct_answer.specs.Text as spec;
 
+use crate::bytes::{push, push_name, push_number};
 use ct_mono::{Monomial, NoMemory};
 use ct_ore::{Action, Algebra};
-use itoa::{Buffer, Integer};
 
 /// A power of a name or of its symbol.
 #[derive(Clone, Copy)]
@@ -35,19 +35,6 @@ pub(crate) fn append_powers(
     Ok(())
 }
 
-pub(crate) fn push_number<I: Integer>(out: &mut Vec<u8>, n: I) -> Result<(), NoMemory>
-    ensures { OnOk result (out.new.items ≡ out.old.items ++ I.text n) }
-{
-    let mut buffer = Buffer::new();
-    out.extend_from_slice(buffer.format(n).as_bytes())
-}
-
-pub(crate) fn push(out: &mut Vec<u8>, text: &[u8]) -> Result<(), NoMemory>
-    ensures { OnOk result (out.new.items ≡ out.old.items ++ text.now) }
-{
-    out.extend_from_slice(text)
-}
-
 // A name, or the symbol of one; nothing past the last name.
 fn push_base(out: &mut Vec<u8>, algebra: &Algebra, power: Power) -> Result<(), NoMemory>
     ensures { OnOk result (out.new.items ≡ out.old.items ++ spec.base_text algebra.now power) }
@@ -73,15 +60,6 @@ fn push_letter(out: &mut Vec<u8>, algebra: &Algebra, name: u8) -> Result<(), NoM
         Action::Derive => push(out, b"D"),
         Action::Still => Ok(()),
     }
-}
-
-fn push_name(out: &mut Vec<u8>, algebra: &Algebra, name: u8) -> Result<(), NoMemory>
-    ensures { OnOk result (out.new.items ≡ out.old.items ++ (spec.naming_at algebra.now name).text) }
-{
-    if name >= algebra.count() {
-        return Ok(());
-    }
-    push(out, algebra.info(name).text.as_bytes())
 }
 
 #[tactic(auto, unfolding(crate::specs::Text::power_text))]

@@ -4,7 +4,8 @@ ghost use Rattle.ct_poly.specs.Terms.{entries};
 ghost use Rattle.ct_ore.specs.Terms.{op_entries};
 ghost use Rattle.ct_answer.specs.Text as spec;
 
-use crate::factors::{Power, append_powers, push, push_later_powers, push_sign, push_signed_term};
+use crate::bytes::push;
+use crate::factors::{Power, append_powers, push_later_powers, push_sign, push_signed_term};
 use crate::polynomial::push_terms;
 use ct_mono::NoMemory;
 use ct_ore::{Algebra, Op, OpTerm};
@@ -21,7 +22,12 @@ pub fn print_op(alloc: Global, algebra: &Algebra, op: &Op) -> Result<Vec<u8>, No
 }
 
 #[tactic(auto, unfolding(crate::specs::Text::operator_text))]
-fn push_op(alloc: Global, out: &mut Vec<u8>, algebra: &Algebra, op: &Op) -> Result<(), NoMemory>
+pub(crate) fn push_op(
+    alloc: Global,
+    out: &mut Vec<u8>,
+    algebra: &Algebra,
+    op: &Op,
+) -> Result<(), NoMemory>
     ensures { OnOk result (out.new.items ≡ out.old.items ++ spec.operator_text algebra.now op.now) }
 {
     push_op_terms(alloc, out, algebra, op.terms())

@@ -3,7 +3,8 @@ ghost use Rattle.std.specs.Prelude.{◌≡◌, ◌++◌, OnOk, IfOk};
 ghost use Rattle.ct_poly.specs.Terms.{entry, entries};
 ghost use Rattle.ct_answer.specs.Text as spec;
 
-use crate::factors::{append_powers, push, push_signed_term};
+use crate::bytes::push;
+use crate::factors::{append_powers, push_signed_term};
 use ct_mono::NoMemory;
 use ct_ore::Algebra;
 use ct_poly::{Poly, Term};
@@ -19,7 +20,12 @@ pub fn print_poly(alloc: Global, algebra: &Algebra, p: &Poly) -> Result<Vec<u8>,
 }
 
 #[tactic(auto, unfolding(crate::specs::Text::polynomial_text))]
-fn push_poly(alloc: Global, out: &mut Vec<u8>, algebra: &Algebra, p: &Poly) -> Result<(), NoMemory>
+pub(crate) fn push_poly(
+    alloc: Global,
+    out: &mut Vec<u8>,
+    algebra: &Algebra,
+    p: &Poly,
+) -> Result<(), NoMemory>
     ensures { OnOk result (out.new.items ≡ out.old.items ++ spec.polynomial_text algebra.now p.now) }
 {
     let terms = p.terms();

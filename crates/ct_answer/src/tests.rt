@@ -1,10 +1,11 @@
 // Texts by hand. The name n has a shift, and x a derivation.
 ghost use Rattle.std.specs.Prelude.{◌<◌};
 
-use crate::{print_op, print_poly};
+use crate::{print_op, print_poly, print_reductions};
 use ct_mono::NoMemory;
 use ct_ore::{Action, Algebra, NameInfo, Op, Role};
 use ct_poly::Poly;
+use ct_reduce::Reduced;
 use std::alloc::Global;
 use std::test::Fail;
 
@@ -81,5 +82,25 @@ fn polynomials_are_written_by_falling_terms(rt: HostRuntime) -> Result<(), Fail>
     assert_eq!(rt; text.as_slice(), b"-1".as_slice());
     let text = print_poly(alloc, &algebra, &Poly::zero(alloc))?;
     assert_eq!(rt; text.as_slice(), b"0".as_slice());
+    Ok(())
+}
+
+#[test]
+fn reductions_are_written_by_lines(rt: HostRuntime) -> Result<(), Fail> {
+    let alloc = rt.alloc();
+    let algebra = shift_and_derivation(alloc)?;
+    let mut cofactors = Vec::new(alloc);
+    cofactors.push(Op::symbol(alloc, 0)?)?;
+    cofactors.push(Op::zero(alloc))?;
+    let mut reductions = Vec::new(alloc);
+    reductions.push(Reduced {
+        scale: Poly::name(alloc, 0)?,
+        cofactors,
+        rest: number(alloc, 3)?,
+    })?;
+    let text = print_reductions(alloc, &algebra, reductions.as_slice())?;
+    let lines =
+        b"mgfun reduce 1\ntarget 1\nscale n\ncofactor 1: S[n]\ncofactor 2: 0\nrest 3\nend\n";
+    assert_eq!(rt; text.as_slice(), lines.as_slice());
     Ok(())
 }

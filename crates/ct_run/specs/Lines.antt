@@ -1,5 +1,4 @@
 -- The outputs of one line, and their outcomes. This project's own.
---     line_of text                    the text, and the end of its line
 --     bad_input e                     the first fault of a text
 --     not_yet                         a text of a form that isn't supported yet
 --     zero_generator g                the generator with this number is zero
@@ -7,11 +6,12 @@
 --     overflow_in_reduction t kind    the reduction of the target with this number does
 --     yes_line, no_line, overflow_in_test     the tests pass, one fails at its place, or one overflows there
 --     verdict_line names t            the line of the tests' outcome
-use Rattle.std.specs.Prelude.{ℕ, List, [], ◌∷◌, ◌++◌, Ok, Err, codes, decimal}
+use Rattle.std.specs.Prelude.{ℕ, List, ◌++◌, Ok, Err, codes, decimal}
 use Rattle.ct_mono.specs.declared.fault.Kind.{Kind}
 use Rattle.ct_mono.specs.declared.fault.Kind.TheVariants.{Degree, Terms, Number, Size}
 use Rattle.ct_ore.specs.Naming.{Naming}
-use Rattle.ct_answer.specs.Text.{naming_at}
+use Rattle.ct_answer.specs.Text.{naming_at, name_text}
+use Rattle.ct_answer.specs.Reductions.{line_of}
 use Rattle.ct_cert.specs.declared.place.Place.{Place}
 use Rattle.ct_cert.specs.declared.place.Place.TheVariants.{Found, Telescoper, Scale, Denominator, Part, Identity}
 use Rattle.ct_cert.specs.Testing.{Tested, Fails, Overflows}
@@ -21,25 +21,18 @@ use Rattle.ct_problem.specs.declared.fault.BadKind.TheVariants as bad
 use Rattle.ct_run.specs.declared.status.Outcome.TheVariants.{Done, BadInput, Overflow, Usage, CheckNo}
 use Rattle.ct_run.specs.Output.{Output}
 
-abbrev pub line_of : List ℕ → List ℕ
-line_of text = text ++ 10 ∷ []
-
 unfoldable pub kind_text : Kind → List ℕ
 kind_text Degree = codes "degree"
 kind_text Terms = codes "terms"
 kind_text Number = codes "number"
 kind_text Size = codes "size"
 
--- the text of a name; of none past the last one
-abbrev pub name_text : List Naming → ℕ → List ℕ
-name_text names i = (naming_at names i).text
-
 unfoldable pub place_text : List Naming → Place → List ℕ
 place_text names Found = codes "found"
 place_text names Telescoper = codes "telescoper"
 place_text names Scale = codes "scale"
-place_text names (Denominator i) = codes "denominator " ++ name_text names i
-place_text names (Part i) = codes "part " ++ name_text names i
+place_text names (Denominator i) = codes "denominator " ++ name_text (naming_at names i)
+place_text names (Part i) = codes "part " ++ name_text (naming_at names i)
 place_text names Identity = codes "identity"
 
 unfoldable pub bad_text : BadKind → List ℕ

@@ -1,11 +1,10 @@
 -- The output of `reduce`: the left reduction of each target by the generators.
 --     checked_reductions a gs xs         the reductions of operators in order, or the number of the first that overflows
---     reduced_text names rs              the reductions as text, the targets and the cofactors counted from 1
 --     reduced p                          the outcome and the text for a problem
 -- Above it:
 --     AreReduced bytes text              what a text of reductions means
 --     ReduceMeans bytes outcome text     what an outcome with this text means
-use Rattle.std.specs.Prelude.{◌≡◌, ℕ, ◌+◌, List, [], ◌∷◌, ◌++◌, codes, decimal, Result, Ok, Err}
+use Rattle.std.specs.Prelude.{◌≡◌, ℕ, List, [], ◌∷◌, Result, Ok, Err}
 use Rattle.ct_algebra.specs.Names.{Name}
 use Rattle.ct_algebra.specs.Actions.{Action}
 use Rattle.ct_algebra.specs.Operators.{Operator}
@@ -14,12 +13,12 @@ use Rattle.ct_mono.specs.declared.fault.Kind.{Kind}
 use Rattle.ct_ore.specs.Naming.{Naming, actions_of}
 use Rattle.ct_reduce.specs.Membership.{Reduction, ReducesTo, IsReduced}
 use Rattle.ct_reduce.specs.Reduction.{checked_reduction}
-use Rattle.ct_answer.specs.Text.{polynomial_text, operator_text}
+use Rattle.ct_answer.specs.Reductions.{reduced_text}
 use Rattle.ct_problem.specs.GrammarProblem.{StandsFor}
 use Rattle.ct_problem.specs.ReadProblem.{Reading}
 use Rattle.ct_run.specs.declared.status.Outcome as outcomes
 use Rattle.ct_run.specs.declared.status.Outcome.TheVariants as outcome
-use Rattle.ct_run.specs.Lines.{line_of, overflow_in_setup, overflow_in_reduction, zero_generator}
+use Rattle.ct_run.specs.Lines.{overflow_in_setup, overflow_in_reduction, zero_generator}
 use Rattle.ct_run.specs.Output.{Output}
 use Rattle.ct_run.specs.Traversal.{each_from, refused_as}
 use Rattle.ct_run.specs.Setup.{Plain, Refusal, ZeroGenerator, Overflow, plain_setup}
@@ -36,28 +35,6 @@ target_reduction a generators place x = refused_as (λ kind. (place, kind)) (che
 
 abbrev pub checked_reductions : (Name → Action) → List Operator → List Operator → Result (List Reduction) TargetOverflow
 checked_reductions a generators xs = each_from 1 (target_reduction a generators) xs
-
--- ---- their text
-
-module _ (names : List Naming) where
-  abbrev pub cofactor_lines : ℕ → List Operator → List ℕ
-  cofactor_lines place [] = []
-  cofactor_lines place (c ∷ cs) =
-      line_of (codes "cofactor " ++ decimal place ++ codes ": " ++ operator_text names c) ++ cofactor_lines (place + 1) cs
-
-  unfoldable pub target_lines : ℕ → Reduction → List ℕ
-  target_lines place r =
-      line_of (codes "target " ++ decimal place)
-      ++ line_of (codes "scale " ++ polynomial_text names r.scale)
-      ++ cofactor_lines 1 r.cofactors
-      ++ line_of (codes "rest " ++ operator_text names r.rest)
-
-  abbrev pub targets_lines : ℕ → List Reduction → List ℕ
-  targets_lines place [] = []
-  targets_lines place (r ∷ rs) = target_lines place r ++ targets_lines (place + 1) rs
-
-  unfoldable pub reduced_text : List Reduction → List ℕ
-  reduced_text rs = line_of (codes "mgfun reduce 1") ++ targets_lines 1 rs ++ line_of (codes "end")
 
 -- ---- the answer
 

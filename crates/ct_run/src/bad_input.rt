@@ -3,9 +3,9 @@ ghost use Rattle.std.specs.Prelude.{◌≡◌, IfOk};
 ghost use Rattle.ct_run.specs.Lines as spec;
 ghost use Rattle.ct_run.specs.Output.{output_of};
 
-use crate::lines::{append, append_number};
 use crate::output::Output;
 use crate::status::Outcome;
+use ct_answer::{push, push_number};
 use ct_io::NoMemory;
 use ct_problem::{BadInput, BadKind};
 use std::alloc::Global;
@@ -16,10 +16,10 @@ pub(crate) fn bad_input(alloc: Global, fault: BadInput) -> Result<Output, NoMemo
     ensures value { IfOk result (λ output. output_of output ≡ spec.bad_input fault) }
 {
     let mut text = Vec::from_slice(alloc, b"bad input ")?;
-    append(&mut text, bad_text(fault.kind))?;
-    append(&mut text, b" at ")?;
-    append_number(&mut text, fault.offset)?;
-    append(&mut text, b"\n")?;
+    push(&mut text, bad_text(fault.kind))?;
+    push(&mut text, b" at ")?;
+    push_number(&mut text, fault.offset)?;
+    push(&mut text, b"\n")?;
     Ok(Output {
         outcome: Outcome::BadInput,
         text,

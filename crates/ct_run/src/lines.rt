@@ -1,15 +1,16 @@
 // The outputs of one line.
-ghost use Rattle.std.specs.Prelude.{◌≡◌, ◌++◌, decimal, IfOk, OnOk};
+ghost use Rattle.std.specs.Prelude.{◌≡◌, ◌++◌, IfOk, OnOk};
+ghost use Rattle.ct_answer.specs.Text.{naming_at, name_text};
 ghost use Rattle.ct_run.specs.Lines as spec;
 ghost use Rattle.ct_run.specs.Output.{output_of};
 
 use crate::output::Output;
 use crate::status::Outcome;
+use ct_answer::{push, push_name, push_number};
 use ct_cert::Place;
 use ct_io::NoMemory;
 use ct_mono::Kind;
 use ct_ore::Algebra;
-use itoa::Buffer;
 use std::alloc::Global;
 
 /// The answer to a text of a form that is not supported yet.
@@ -28,8 +29,8 @@ pub(crate) fn zero_generator(alloc: Global, place: usize) -> Result<Output, NoMe
     ensures value { IfOk result (λ output. output_of output ≡ spec.zero_generator place) }
 {
     let mut text = Vec::from_slice(alloc, b"bad input ZeroGenerator ")?;
-    append_number(&mut text, place)?;
-    append(&mut text, b"\n")?;
+    push_number(&mut text, place)?;
+    push(&mut text, b"\n")?;
     Ok(Output {
         outcome: Outcome::BadInput,
         text,
@@ -64,8 +65,8 @@ pub(crate) fn overflow_in_reduction(
     ensures value { IfOk result (λ output. output_of output ≡ spec.overflow_in_reduction place kind) }
 {
     let mut text = Vec::from_slice(alloc, b"overflow reduce ")?;
-    append_number(&mut text, place)?;
-    append(&mut text, b" ")?;
+    push_number(&mut text, place)?;
+    push(&mut text, b" ")?;
     overflow_line(text, kind)
 }
 
@@ -85,8 +86,8 @@ pub(crate) fn no(alloc: Global, algebra: &Algebra, place: Place) -> Result<Outpu
     ensures value { IfOk result (λ output. output_of output ≡ spec.no_line algebra.now place) }
 {
     let mut text = Vec::from_slice(alloc, b"no ")?;
-    append_place(&mut text, algebra, place)?;
-    append(&mut text, b"\n")?;
+    push_place(&mut text, algebra, place)?;
+    push(&mut text, b"\n")?;
     Ok(Output {
         outcome: Outcome::CheckNo,
         text,
@@ -104,8 +105,8 @@ pub(crate) fn overflow_in_test(
     ensures value { IfOk result (λ output. output_of output ≡ spec.overflow_in_test algebra.now place kind) }
 {
     let mut text = Vec::from_slice(alloc, b"overflow check ")?;
-    append_place(&mut text, algebra, place)?;
-    append(&mut text, b" ")?;
+    push_place(&mut text, algebra, place)?;
+    push(&mut text, b" ")?;
     overflow_line(text, kind)
 }
 
@@ -114,8 +115,8 @@ fn overflow_line(text: Vec<u8>, kind: Kind) -> Result<Output, NoMemory>
     ensures { IfOk result (λ output. output_of output ≡ spec.overflow_line text.items kind) }
 {
     let mut text = text;
-    append(&mut text, kind_text(kind))?;
-    append(&mut text, b"\n")?;
+    push(&mut text, kind_text(kind))?;
+    push(&mut text, b"\n")?;
     Ok(Output {
         outcome: Outcome::Overflow,
         text,
@@ -135,51 +136,22 @@ fn kind_text(kind: Kind) -> &'static [u8]
 }
 
 #[tactic(auto, unfolding(crate::specs::Lines::place_text))]
-fn append_place(out: &mut Vec<u8>, algebra: &Algebra, place: Place) -> Result<(), NoMemory>
+fn push_place(out: &mut Vec<u8>, algebra: &Algebra, place: Place) -> Result<(), NoMemory>
     ensures { OnOk result (out.new.items ≡ out.old.items ++ spec.place_text algebra.now place) }
 {
     match place {
-        Place::Found => append(out, b"found"),
-        Place::Telescoper => append(out, b"telescoper"),
-        Place::Scale => append(out, b"scale"),
-        Place::Denominator(i) => append_with_name(out, b"denominator ", algebra, i),
-        Place::Part(i) => append_with_name(out, b"part ", algebra, i),
-        Place::Identity => append(out, b"identity"),
+        Place::Found => push(out, b"found"),
+        Place::Telescoper => push(out, b"telescoper"),
+        Place::Scale => push(out, b"scale"),
+        Place::Denominator(i) => push_with_name(out, b"denominator ", algebra, i),
+        Place::Part(i) => push_with_name(out, b"part ", algebra, i),
+        Place::Identity => push(out, b"identity"),
     }
 }
 
-fn append_with_name(
-    out: &mut Vec<u8>,
-    text: &[u8],
-    algebra: &Algebra,
-    i: u8,
-) -> Result<(), NoMemory>
-    ensures { OnOk result (out.new.items ≡ out.old.items ++ (text.now ++ spec.name_text algebra.now i)) }
+fn push_with_name(out: &mut Vec<u8>, text: &[u8], algebra: &Algebra, i: u8) -> Result<(), NoMemory>
+    ensures { OnOk result (out.new.items ≡ out.old.items ++ (text.now ++ name_text (naming_at algebra.now i))) }
 {
-    append(out, text)?;
-    append_name(out, algebra, i)
-}
-
-// A name's text; nothing past the last name.
-fn append_name(out: &mut Vec<u8>, algebra: &Algebra, i: u8) -> Result<(), NoMemory>
-    ensures { OnOk result (out.new.items ≡ out.old.items ++ spec.name_text algebra.now i) }
-{
-    if i < algebra.count() {
-        append(out, algebra.info(i).text.as_bytes())
-    } else {
-        Ok(())
-    }
-}
-
-pub(crate) fn append(out: &mut Vec<u8>, text: &[u8]) -> Result<(), NoMemory>
-    ensures { OnOk result (out.new.items ≡ out.old.items ++ text.now) }
-{
-    out.extend_from_slice(text)
-}
-
-pub(crate) fn append_number(out: &mut Vec<u8>, n: usize) -> Result<(), NoMemory>
-    ensures { OnOk result (out.new.items ≡ out.old.items ++ decimal n) }
-{
-    let mut buffer = Buffer::new();
-    append(out, buffer.format(n).as_bytes())
+    push(out, text)?;
+    push_name(out, algebra, i)
 }

@@ -1,24 +1,19 @@
 // The output of `reduce`.
-ghost use Rattle.std.specs.Prelude.{◌≡◌, [], ◌∷◌, ◌++◌, map, IfOk, OnOk};
-ghost use Rattle.ct_answer.specs.Text.{operator_text};
+ghost use Rattle.std.specs.Prelude.{◌≡◌, IfOk};
 ghost use Rattle.ct_ore.specs.Naming.{actions_of};
 ghost use Rattle.ct_problem.specs.ReadProblem.{reading_of};
-ghost use Rattle.ct_reduce.specs.Views.{reduction_of};
 ghost use Rattle.ct_run.specs.Output.{output_of};
 ghost use Rattle.ct_run.specs.Reducing as spec;
 
-use crate::lines::{
-    append, append_number, overflow_in_reduction, overflow_in_setup, zero_generator,
-};
+use crate::lines::{overflow_in_reduction, overflow_in_setup, zero_generator};
 use crate::output::Output;
 use crate::reductions::{TargetFault, reductions};
 use crate::setup::{Plain, Refusal, plain_setup};
 use crate::status::Outcome;
-use ct_answer::{print_op, print_poly};
+use ct_answer::print_reductions;
 use ct_io::NoMemory;
-use ct_ore::{Algebra, Op};
+use ct_ore::Algebra;
 use ct_problem::Problem;
-use ct_reduce::Reduced;
 use std::alloc::Global;
 
 /// The output for a problem without `let` and `use` lines.
@@ -42,89 +37,9 @@ fn answer_plain(alloc: Global, algebra: &Algebra, plain: &Plain) -> Result<Outpu
     match reductions(alloc, algebra, generators, plain.targets.as_slice()) {
         Ok(reductions) => Ok(Output {
             outcome: Outcome::Done,
-            text: reduced_text(alloc, algebra, reductions.as_slice())?,
+            text: print_reductions(alloc, algebra, reductions.as_slice())?,
         }),
         Err(TargetFault::Overflow(place, kind)) => overflow_in_reduction(alloc, place, kind),
         Err(TargetFault::NoMemory) => Err(NoMemory),
     }
-}
-
-#[tactic(auto, unfolding(crate::specs::Reducing::reduced_text))]
-fn reduced_text(
-    alloc: Global,
-    algebra: &Algebra,
-    reductions: &[Reduced],
-) -> Result<Vec<u8>, NoMemory>
-    ensures { IfOk result (λ text. text.items ≡ spec.reduced_text algebra.now (map reduction_of reductions.now)) }
-{
-    let mut text = Vec::from_slice(alloc, b"mgfun reduce 1\n")?;
-    append_targets(alloc, &mut text, algebra, reductions)?;
-    append(&mut text, b"end\n")?;
-    Ok(text)
-}
-
-/// The lines of each target, counted from 1.
-fn append_targets(
-    alloc: Global,
-    text: &mut Vec<u8>,
-    algebra: &Algebra,
-    reductions: &[Reduced],
-) -> Result<(), NoMemory>
-    ensures { OnOk result (text.new.items ≡ text.old.items ++ spec.targets_lines algebra.now 1 (map reduction_of reductions.now)) }
-{
-    for (at, reduced) in reductions.iter().enumerate() {
-        append_target(alloc, text, algebra, at + 1, reduced)?;
-    }
-    Ok(())
-}
-
-#[tactic(auto, unfolding(crate::specs::Reducing::target_lines))]
-fn append_target(
-    alloc: Global,
-    text: &mut Vec<u8>,
-    algebra: &Algebra,
-    place: usize,
-    reduced: &Reduced,
-) -> Result<(), NoMemory>
-    ensures { OnOk result (text.new.items ≡ text.old.items ++ spec.target_lines algebra.now place (reduction_of reduced.now)) }
-{
-    append(text, b"target ")?;
-    append_number(text, place)?;
-    append(text, b"\nscale ")?;
-    append(text, print_poly(alloc, algebra, &reduced.scale)?.as_slice())?;
-    append(text, b"\n")?;
-    append_cofactors(alloc, text, algebra, reduced.cofactors.as_slice())?;
-    append_op(alloc, text, algebra, b"rest ", &reduced.rest)
-}
-
-/// The line of each cofactor, counted from 1.
-fn append_cofactors(
-    alloc: Global,
-    text: &mut Vec<u8>,
-    algebra: &Algebra,
-    cofactors: &[Op],
-) -> Result<(), NoMemory>
-    ensures { OnOk result (text.new.items ≡ text.old.items ++ spec.cofactor_lines algebra.now 1 cofactors.now) }
-{
-    for (at, cofactor) in cofactors.iter().enumerate() {
-        append(text, b"cofactor ")?;
-        append_number(text, at + 1)?;
-        append_op(alloc, text, algebra, b": ", cofactor)?;
-    }
-    Ok(())
-}
-
-/// A text, an operator and the end of a line.
-fn append_op(
-    alloc: Global,
-    text: &mut Vec<u8>,
-    algebra: &Algebra,
-    front: &[u8],
-    op: &Op,
-) -> Result<(), NoMemory>
-    ensures { OnOk result (text.new.items ≡ text.old.items ++ (front.now ++ operator_text algebra.now op.now ++ 10 ∷ [])) }
-{
-    append(text, front)?;
-    append(text, print_op(alloc, algebra, op)?.as_slice())?;
-    append(text, b"\n")
 }

@@ -1,6 +1,6 @@
 use Rattle.std.proofs.Common.{◌≡◌, ◌+◌, ◌++◌, drop}
-use Rattle.ct_run.specs.Reducing.{cofactor_lines}
-use Rattle.ct_run.proofs.reducing.append_cofactors.Given as goal
+use Rattle.ct_answer.specs.Reductions.{cofactor_lines}
+use Rattle.ct_answer.proofs.reductions.push_cofactors.Given as goal
 
 -- what is written and what is left
 abbrev pub invariant-loop-at : goal.invariant-loop-at

@@ -1,9 +1,0 @@
-use Rattle.std.proofs.Common.{◌≡◌, ◌+◌, ◌++◌, drop, map}
-use Rattle.ct_reduce.specs.Views.{reduction_of}
-use Rattle.ct_run.specs.Reducing.{targets_lines}
-use Rattle.ct_run.proofs.reducing.append_targets.Given as goal
-
--- what is written and what is left
-abbrev pub invariant-loop-at : goal.invariant-loop-at
-invariant-loop-at l =
-    l.text.items ++ targets_lines l.algebra (l.at + 1) (map reduction_of (drop l.at l.reductions)) ≡ l.initial.text.items ++ targets_lines l.algebra 1 (map reduction_of l.reductions)
