@@ -1,7 +1,6 @@
 // The places of the tests, and what the check answers.
 
 use ct_mono::Kind;
-use std::alloc::AllocError;
 
 /// Which test failed or overflowed. Names are given by their numbers.
 #[derive(Clone, Copy)]
@@ -42,15 +41,4 @@ pub(crate) enum Stop {
     No(Place),
     Overflow(Place, Kind),
     NoMemory,
-}
-
-impl From<AllocError> for Stop {
-    ghost use Rattle.std.specs.Prelude.{◌≡◌};
-    ghost use Rattle.ct_cert.specs.declared.place.Stop.TheVariants.{NoMemory};
-
-    ghost from_gives = { λ _ e. e ≡ NoMemory };
-
-    fn from(_: AllocError) -> Stop {
-        Stop::NoMemory
-    }
 }
