@@ -69,5 +69,7 @@ module _ (m : Mono) (c : Polynomial) (p : Part) (ps rest : List Part) (whole : r
       term_lacks (names_of rest) m c ≡ asked → term_lacks (names_of ps) m c ≡ asked
   unfolding named
   names_go_on r told none free left =
-      ap (λ b. b && term_lacks (names_of ps) m c) (sym (both_pass _ _ (eq-eqb _ 0 (ap (exp m) (place-name_with p.name small) ∙ none)) ((polynomial_lacks_decides (name_with p.name) c).1 (told.0 free))))
+      ap (λ b. b && term_lacks (names_of ps) m c)
+      (sym (both_pass _ _ (eq-eqb _ 0 (ap (exp m) (place-name_with p.name small) ∙ none))
+      ((polynomial_lacks_decides (name_with p.name) c).1 (told.0 free))))
       ∙ sym opened ∙ left

@@ -64,7 +64,9 @@ module _ (a : Name → Action) where
   part_value h s b fits =
       let denominator = both_fit (checked_denominator a s) (λ d. checked_times s.factor d >>= (λ p. Ok (same_polynomial p h))) b fits in
       let product = both_fit (checked_times s.factor denominator.value) (λ p. Ok (same_polynomial p h)) b denominator.rest in
-      let value : times s.factor (difference_denominator a s) ≡ product.value = ap (times s.factor) (denominator_value s denominator.value denominator.first) ∙ times_value s.factor denominator.value product.value product.first in
+      let value : times s.factor (difference_denominator a s) ≡ product.value =
+      ap (times s.factor) (denominator_value s denominator.value denominator.first)
+      ∙ times_value s.factor denominator.value product.value product.first in
       let is : same_polynomial product.value h ≡ b = cc (product.rest) in
       let decides = same_polynomial_decides product.value h in
       (λ yes. sym (value ∙ decides.0 (is ∙ yes)), λ equal. sym is ∙ decides.1 (sym value ∙ sym equal))
@@ -86,7 +88,9 @@ module _ (a : Name → Action) where
   numerator_value : (s : Summand) (r : Operator) → checked_numerator a s ≡ Ok r → difference_numerator a s ≡ r
   unfolding checked_numerator
   numerator_value s r fits =
-      let before = both_fit (checked_product a (term_of (symbol s.name) polys.one) s.numerator) (λ v. checked_multiple a s.denominator v >>= (λ f. checked_coefficient a s >>= (λ c. checked_multiple a c s.numerator >>= (λ g. checked_difference f g)))) r fits in
+      let before = both_fit (checked_product a (term_of (symbol s.name) polys.one) s.numerator)
+      (λ v. checked_multiple a s.denominator v >>=
+      (λ f. checked_coefficient a s >>= (λ c. checked_multiple a c s.numerator >>= (λ g. checked_difference f g)))) r fits in
       let first = both_fit (checked_multiple a s.denominator before.value) (λ f. checked_coefficient a s >>= (λ c. checked_multiple a c s.numerator >>= (λ g. checked_difference f g))) r before.rest in
       let coefficient = both_fit (checked_coefficient a s) (λ c. checked_multiple a c s.numerator >>= (λ g. checked_difference first.value g)) r first.rest in
       let second = both_fit (checked_multiple a coefficient.value s.numerator) (λ g. checked_difference first.value g) r coefficient.rest in
@@ -125,12 +129,15 @@ module _ (a : Name → Action) where
       Decides b (IsIdentity a generators c)
   unfolding checked_identity sum_of_operators no_operator
   identity_value generators c b fits =
-      let left = both_fit (checked_multiple a c.scale c.telescoper) (λ l. checked_differences a no_operator c.summands >>= (λ d. checked_combination a d c.cofactors generators >>= (λ r. Ok (same_operator l r)))) b fits in
+      let left = both_fit (checked_multiple a c.scale c.telescoper)
+      (λ l. checked_differences a no_operator c.summands >>=
+      (λ d. checked_combination a d c.cofactors generators >>= (λ r. Ok (same_operator l r)))) b fits in
       let differences = both_fit (checked_differences a no_operator c.summands) (λ d. checked_combination a d c.cofactors generators >>= (λ r. Ok (same_operator left.value r))) b left.rest in
       let right = both_fit (checked_combination a differences.value c.cofactors generators) (λ r. Ok (same_operator left.value r)) b differences.rest in
       let first : multiple a c.scale c.telescoper ≡ left.value = multiple_value c.scale c.telescoper left.value left.first in
       let summed = differences_value no_operator c.summands differences.value differences.first in
-      let second = ap (λ p. operator_group.◌+◌ p (combination a c.cofactors generators)) (sym (zero_add operator_group _) ∙ summed) ∙ combination_value a differences.value c.cofactors generators right.value right.first in
+      let second = ap (λ p. operator_group.◌+◌ p (combination a c.cofactors generators)) (sym (zero_add operator_group _) ∙ summed)
+      ∙ combination_value a differences.value c.cofactors generators right.value right.first in
       let is : same_operator left.value right.value ≡ b = cc (right.rest) in
       let decides = same_operator_decides left.value right.value in
       (λ yes. first ∙ decides.0 (is ∙ yes) ∙ sym second, λ equal. sym is ∙ decides.1 (sym first ∙ equal ∙ second))

@@ -8,16 +8,28 @@ use Rattle.ct_cert.proofs.freedom.term_is_free.Goals.{then-exp-ne0-via-then-exp-
 
 pub returns-then-exp-ne0 : goal.returns-then-exp-ne0
 returns-then-exp-ne0 c =
-    let small = All-head IsSmall c.in-Some.part.now c.in-Some.more.now (subst (All IsSmall) c.in-Some.ensures.cases.0 c.loop-part.invariant.small) in
+    let p = c.in-Some.part.now in
+    let ps = c.in-Some.more.now in
+    let whole = c.in-Some.ensures.cases.0 in
+    let small = All-head IsSmall p ps (subst (All IsSmall) whole c.loop-part.invariant.small) in
     elim c.then-exp-ne0.branch [
-      | then-exp-ne0-via-then-exp-ne0 w ↦ name_found c.args.mono.now c.args.coef.now c.in-Some.part.now c.in-Some.more.now c.loop-part.rest.now c.in-Some.ensures.cases.0 small (λ none. w.if-exp-ne0.true (c.exp.ensures ∙ none)) c.loop-part.invariant.same
-      | then-exp-ne0-via-else-exp-ne0+then-contains w ↦ coefficient_found c.args.mono.now c.args.coef.now c.in-Some.part.now c.in-Some.more.now c.loop-part.rest.now c.in-Some.ensures.cases.0 small w.contains.result w.contains.ensures w.if-contains.true c.loop-part.invariant.same
+      | then-exp-ne0-via-then-exp-ne0 w ↦
+          name_found c.args.mono.now c.args.coef.now p ps c.loop-part.rest.now whole small
+          (λ none. w.if-exp-ne0.true (c.exp.ensures ∙ none)) c.loop-part.invariant.same
+      | then-exp-ne0-via-else-exp-ne0+then-contains w ↦
+          coefficient_found c.args.mono.now c.args.coef.now p ps c.loop-part.rest.now whole small
+          w.contains.result w.contains.ensures w.if-contains.true c.loop-part.invariant.same
     ]
 
 pub loop-part-preserved : goal.loop-part-preserved
 loop-part-preserved c =
-    let small = All-head IsSmall c.in-Some.part.now c.in-Some.more.now (subst (All IsSmall) c.in-Some.ensures.cases.0 c.loop-part.invariant.small) in
+    let p = c.in-Some.part.now in
+    let ps = c.in-Some.more.now in
+    let whole = c.in-Some.ensures.cases.0 in
+    let small = All-head IsSmall p ps (subst (All IsSmall) whole c.loop-part.invariant.small) in
     record {
-      same = names_go_on c.args.mono.now c.args.coef.now c.in-Some.part.now c.in-Some.more.now c.loop-part.rest.now c.in-Some.ensures.cases.0 small c.contains.result c.contains.ensures (sym c.exp.ensures ∙ c.if-exp-ne0.false) c.if-contains.false c.loop-part.invariant.same;
-      small = All-rest IsSmall c.in-Some.part.now c.in-Some.more.now c.loop-part.rest.now c.in-Some.ensures.cases.0 c.loop-part.invariant.small;
+      same =
+          names_go_on c.args.mono.now c.args.coef.now p ps c.loop-part.rest.now whole small
+          c.contains.result c.contains.ensures (sym c.exp.ensures ∙ c.if-exp-ne0.false) c.if-contains.false c.loop-part.invariant.same;
+      small = All-rest IsSmall p ps c.loop-part.rest.now whole c.loop-part.invariant.small;
     }

@@ -14,18 +14,27 @@ use Rattle.ct_cert.proofs.tests_in_order.denominators.Goals as goal
 
 pub returns-in_err-ending : goal.returns-in_err-ending
 returns-in_err-ending c =
-    let small = All-head IsSmall c.in-Some.part.now c.in-Some.more.now (subst (All IsSmall) c.in-Some.ensures.cases.0 c.loop-part.invariant.small) in
-    let made = denominator_made c.in-Some.part.now c.is_zero.result small c.is_zero.ensures in
+    let p = c.in-Some.part.now in
+    let ps = c.in-Some.more.now in
+    let whole = c.in-Some.ensures.cases.0 in
+    let small = All-head IsSmall p ps (subst (All IsSmall) whole c.loop-part.invariant.small) in
+    let made = denominator_made p c.is_zero.result small c.is_zero.ensures in
     let exit = err_from_is_err_and c.from_residual.result c.from_residual.ensures.1 in
     rw (exit.1, exit.2)
-    (stopped (test_of (Denominator c.in-Some.part.now.name) (Ok (not c.is_zero.result))) (for_each denominator_test (map summand_of c.args.parts.now)) c.in_err-ending.field-0.0 c.in_err-ending.ensures
-    (λ e ended. ending_test denominator_test c.in-Some.part.now c.in-Some.more.now c.loop-part.rest.now e c.in-Some.ensures.cases.0 (sym made ∙ ended) c.loop-part.invariant.same))
+    (stopped (test_of (Denominator p.name) (Ok (not c.is_zero.result))) (for_each denominator_test (map summand_of c.args.parts.now))
+    c.in_err-ending.field-0.0 c.in_err-ending.ensures
+    (λ e ended. ending_test denominator_test p ps c.loop-part.rest.now e whole (sym made ∙ ended) c.loop-part.invariant.same))
 
 pub loop-part-preserved : goal.loop-part-preserved
 loop-part-preserved c =
-    let small = All-head IsSmall c.in-Some.part.now c.in-Some.more.now (subst (All IsSmall) c.in-Some.ensures.cases.0 c.loop-part.invariant.small) in
-    let made = denominator_made c.in-Some.part.now c.is_zero.result small c.is_zero.ensures in
+    let p = c.in-Some.part.now in
+    let ps = c.in-Some.more.now in
+    let whole = c.in-Some.ensures.cases.0 in
+    let small = All-head IsSmall p ps (subst (All IsSmall) whole c.loop-part.invariant.small) in
+    let made = denominator_made p c.is_zero.result small c.is_zero.ensures in
     record {
-      same = next_test denominator_test c.in-Some.part.now c.in-Some.more.now c.loop-part.rest.now c.in_ok-ending.field-0 c.in-Some.ensures.cases.0 (sym made ∙ c.in_ok-ending.ensures) c.loop-part.invariant.same;
-      small = All-rest IsSmall c.in-Some.part.now c.in-Some.more.now c.loop-part.rest.now c.in-Some.ensures.cases.0 c.loop-part.invariant.small;
+      same =
+          next_test denominator_test p ps c.loop-part.rest.now c.in_ok-ending.field-0 whole
+          (sym made ∙ c.in_ok-ending.ensures) c.loop-part.invariant.same;
+      small = All-rest IsSmall p ps c.loop-part.rest.now whole c.loop-part.invariant.small;
     }

@@ -16,22 +16,35 @@ use Rattle.ct_cert.proofs.tests_in_order.factors.Goals as goal
 
 pub returns-in_err-checked_ending : goal.returns-in_err-checked_ending
 returns-in_err-checked_ending c =
-    let named = All-head (IsNamed c.args.algebra.now) c.in-Some.part.now c.in-Some.more.now (subst (All (IsNamed c.args.algebra.now)) c.in-Some.ensures.cases.0 c.loop-part.invariant.named) in
-    let small : IsSmall c.in-Some.part.now = omega (arith, named.known, named.few) in
+    let p = c.in-Some.part.now in
+    let ps = c.in-Some.more.now in
+    let whole = c.in-Some.ensures.cases.0 in
+    let named = All-head (IsNamed c.args.algebra.now) p ps (subst (All (IsNamed c.args.algebra.now)) whole c.loop-part.invariant.named) in
+    let small : IsSmall p = omega (arith, named.known, named.few) in
     let a = actions_of c.args.algebra.now in
-    let made = part_made a c.args.scale.now c.in-Some.part.now small in
+    let scale = c.args.scale.now in
+    let holds = checked_part a scale (summand_of p) in
+    let made = part_made a scale p small in
     let exit = err_from_is_err_and c.from_residual.result c.from_residual.ensures.1 in
     rw (exit.1, exit.2)
-    (stopped (test_of (Part c.in-Some.part.now.name) (checked_part a c.args.scale.now (summand_of c.in-Some.part.now))) (for_each (part_test a c.args.scale.now) (map summand_of c.args.parts.now)) c.in_err-checked_ending.field-0.0 (c.in_err-checked_ending.ensures (checked_part a c.args.scale.now (summand_of c.in-Some.part.now)) c.part_holds.ensures)
-    (λ e ended. ending_test (part_test a c.args.scale.now) c.in-Some.part.now c.in-Some.more.now c.loop-part.rest.now e c.in-Some.ensures.cases.0 (sym made ∙ ended) c.loop-part.invariant.same))
+    (stopped (test_of (Part p.name) holds) (for_each (part_test a scale) (map summand_of c.args.parts.now))
+    c.in_err-checked_ending.field-0.0 (c.in_err-checked_ending.ensures holds c.part_holds.ensures)
+    (λ e ended. ending_test (part_test a scale) p ps c.loop-part.rest.now e whole (sym made ∙ ended) c.loop-part.invariant.same))
 
 pub loop-part-preserved : goal.loop-part-preserved
 loop-part-preserved c =
-    let named = All-head (IsNamed c.args.algebra.now) c.in-Some.part.now c.in-Some.more.now (subst (All (IsNamed c.args.algebra.now)) c.in-Some.ensures.cases.0 c.loop-part.invariant.named) in
-    let small : IsSmall c.in-Some.part.now = omega (arith, named.known, named.few) in
+    let p = c.in-Some.part.now in
+    let ps = c.in-Some.more.now in
+    let whole = c.in-Some.ensures.cases.0 in
+    let named = All-head (IsNamed c.args.algebra.now) p ps (subst (All (IsNamed c.args.algebra.now)) whole c.loop-part.invariant.named) in
+    let small : IsSmall p = omega (arith, named.known, named.few) in
     let a = actions_of c.args.algebra.now in
-    let made = part_made a c.args.scale.now c.in-Some.part.now small in
+    let scale = c.args.scale.now in
+    let holds = checked_part a scale (summand_of p) in
+    let made = part_made a scale p small in
     record {
-      same = next_test (part_test a c.args.scale.now) c.in-Some.part.now c.in-Some.more.now c.loop-part.rest.now c.in_ok-checked_ending.field-0 c.in-Some.ensures.cases.0 (sym made ∙ c.in_ok-checked_ending.ensures (checked_part a c.args.scale.now (summand_of c.in-Some.part.now)) c.part_holds.ensures) c.loop-part.invariant.same;
-      named = All-rest (IsNamed c.args.algebra.now) c.in-Some.part.now c.in-Some.more.now c.loop-part.rest.now c.in-Some.ensures.cases.0 c.loop-part.invariant.named;
+      same =
+          next_test (part_test a scale) p ps c.loop-part.rest.now c.in_ok-checked_ending.field-0 whole
+          (sym made ∙ c.in_ok-checked_ending.ensures holds c.part_holds.ensures) c.loop-part.invariant.same;
+      named = All-rest (IsNamed c.args.algebra.now) p ps c.loop-part.rest.now whole c.loop-part.invariant.named;
     }

@@ -10,4 +10,6 @@ returns-then-is_zero c =
 
 pub returns : goal.returns
 returns c =
-    subst (λ t. AnswersTest t c.ending-2.result) (free_telescoper (names_of c.args.parts.now) c.args.op.now c.is_zero.result c.is_free.result c.is_zero.ensures c.if-is_zero.false c.is_free.ensures) c.ending-2.ensures
+    subst (λ t. AnswersTest t c.ending-2.result)
+    (free_telescoper (names_of c.args.parts.now) c.args.op.now c.is_zero.result c.is_free.result c.is_zero.ensures c.if-is_zero.false
+    c.is_free.ensures) c.ending-2.ensures
