@@ -11,6 +11,7 @@ use Rattle.ct_mono.specs.Checked.{Checked, ◌>>=◌}
 use Rattle.ct_ore.specs.declared.answer.Part.{Part}
 use Rattle.ct_cert.specs.declared.place.Stop.{Stop}
 use Rattle.ct_cert.specs.declared.place.Stop.TheVariants as stops
+use Rattle.ct_cert.specs.declared.place.CheckFault.TheVariants as faults
 use Rattle.ct_ore.specs.Answers.{summand_of}
 use Rattle.ct_cert.specs.Arithmetic.{with_difference, checked_differences}
 use Rattle.ct_cert.specs.Testing as testing
@@ -44,5 +45,5 @@ pub stopped :
     (t whole : testing.Tested (Unit {0})) (stop : Stop) → testing.AnswersTest t (Err stop) →
     ((e : testing.Ending) → t ≡ Err e → whole ≡ Err e) → testing.AnswersTest whole (Err stop)
 stopped t whole (stops.No p) ended onward = onward (testing.Fails p) ended
-stopped t whole (stops.Overflow p k) ended onward = onward (testing.Overflows p k) ended
-stopped t whole stops.NoMemory ended onward = tt
+stopped t whole (stops.Fault (faults.Overflow p k)) ended onward = onward (testing.Overflows p k) ended
+stopped t whole (stops.Fault faults.NoMemory) ended onward = tt

@@ -1,10 +1,10 @@
 -- Tests in an order: the outcome is a value, or the first test that ended them. (This project's own.)
---     Ending            a test failed at its place, or its arithmetic overflowed there
---     Tested A          a value, or the ending
---     t >>= f           first t, then f of its value; the first ending ends it, so `do` blocks give the order of tests
---     test_of p c       the test of a checked truth value: it passes where that is true
---     AnswersTest t r   what a call may answer to t: its value, its ending, or out of memory
---     AnswersVerdict    the same of a check's answer
+--     Ending               a test failed at its place, or its arithmetic overflowed there
+--     Tested A             a value, or the ending
+--     t >>= f              first t, then f of its value; the first ending ends it, so `do` blocks give the order of tests
+--     test_of p c          the test of a checked truth value: it passes where that is true
+--     AnswersVerdict t r   what a check may answer to its tests t: yes, the place that fails, the overflow, or out of memory
+--     AnswersTest t r      the same of a call that makes some of them
 -- Cited by the tests and by every call that makes some.
 use Rattle.std.specs.Prelude.{◌≡◌, Ok, Err, Bool, true, false}
 use Rattle.std.proofs.Common.{Result}
@@ -35,19 +35,18 @@ test_of p (Ok true) = Ok tt
 test_of p (Ok false) = Err (Fails p)
 test_of p (Err k) = Err (Overflows p k)
 
--- what a call that makes tests may answer
-abbrev pub AnswersTest : Tested (Unit {0}) → Result (Unit {0}) stop.Stop → Type 0
-AnswersTest t (Ok r) = t ≡ Ok r
-AnswersTest t (Err (stops.No p)) = t ≡ Err (Fails p)
-AnswersTest t (Err (stops.Overflow p k)) = t ≡ Err (Overflows p k)
-AnswersTest t (Err stops.NoMemory) = Unit {0}
-
--- what a check of all of them may answer
+-- what a check may answer to its tests
 abbrev pub AnswersVerdict : Tested (Unit {0}) → Result Verdict CheckFault → Type 0
 AnswersVerdict t (Ok Yes) = t ≡ Ok tt
 AnswersVerdict t (Ok (No p)) = t ≡ Err (Fails p)
 AnswersVerdict t (Err (faults.Overflow p k)) = t ≡ Err (Overflows p k)
 AnswersVerdict t (Err faults.NoMemory) = Unit {0}
+
+-- what a call that makes tests may answer: where one ends them, what a check of all of them then answers
+abbrev pub AnswersTest : Tested (Unit {0}) → Result (Unit {0}) stop.Stop → Type 0
+AnswersTest t (Ok r) = t ≡ Ok r
+AnswersTest t (Err (stops.No p)) = AnswersVerdict t (Ok (No p))
+AnswersTest t (Err (stops.Fault e)) = AnswersVerdict t (Err e)
 
 -- a fact for the answer yes, and one for the place of a no
 abbrev pub OnYes : Result Verdict CheckFault → Type 0 → Type 0

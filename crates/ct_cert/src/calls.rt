@@ -29,7 +29,6 @@ pub fn check_found(
     match all_tests(alloc, algebra, generators, due, found, answer) {
         Ok(()) => Ok(Verdict::Yes),
         Err(Stop::No(place)) => Ok(Verdict::No(place)),
-        Err(Stop::Overflow(place, kind)) => Err(CheckFault::Overflow(place, kind)),
-        Err(Stop::NoMemory) => Err(CheckFault::NoMemory),
+        Err(Stop::Fault(fault)) => Err(fault),
     }
 }

@@ -39,6 +39,5 @@ pub struct Support {
 #[derive(Clone, Copy)]
 pub(crate) enum Stop {
     No(Place),
-    Overflow(Place, Kind),
-    NoMemory,
+    Fault(CheckFault),
 }
