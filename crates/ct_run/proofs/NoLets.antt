@@ -8,7 +8,9 @@ some_form : (f : LetForm) (fs : List LetForm) (b : Bool) → (IsTrue b ↔ (f �
 some_form f fs true told = let none = told.0 refl in cc
 some_form f fs false told = refl
 
-pub empty_definitions : (texts : List (List ℕ)) (forms : List LetForm) → length texts ≡ length forms → (b : Bool) → (IsTrue b ↔ (forms ≡ [])) → b ≡ is_empty (definitions_of texts forms)
+pub empty_definitions :
+    (texts : List (List ℕ)) (forms : List LetForm) → length texts ≡ length forms → (b : Bool) → (IsTrue b ↔ (forms ≡ [])) →
+    b ≡ is_empty (definitions_of texts forms)
 empty_definitions [] [] same b told = told.1 refl
 empty_definitions [] (f ∷ fs) same b told = absurd (omega (arith, same))
 empty_definitions (t ∷ ts) [] same b told = absurd (omega (arith, same))

@@ -6,6 +6,7 @@ use Rattle.std.proofs.lemmas.List.Elements.{All-head, All-tail, All-push}
 use Rattle.std.specs.List.{All}
 use Rattle.ct_algebra.specs.Names.{name_with}
 use Rattle.ct_algebra.specs.Polynomial.{Polynomial}
+use Rattle.ct_algebra.specs.Certificate.{Summand}
 use Rattle.ct_ore.specs.declared.answer.Part.{Part}
 use Rattle.ct_ore.specs.Answers.{summand_of}
 use Rattle.ct_run.specs.declared.values.Fraction.{Fraction}
@@ -29,7 +30,13 @@ pub pairing_more :
     IsPairing names quotients factors done rest left later → IsPairing names quotients factors done' rest' left' later'
 pairing_more {names} {rest} {rest'} {quotients} {left} {left'} {factors} {later} {later'} {done} {done'} j q f er el ef ed pairing =
     let p : Part = record { name = j; numerator = q.numerator; denominator = q.denominator; part = f } in
-    let before : map summand_of done ++ summands_of (map name_with (j ∷ rest')) (map pair_of (q ∷ left')) (f ∷ later') ≡ summands_of (map name_with names) (map pair_of quotients) factors = subst (λ r. map summand_of done ++ summands_of (map name_with r) (map pair_of (q ∷ left')) (f ∷ later') ≡ summands_of (map name_with names) (map pair_of quotients) factors) er (subst (λ l. map summand_of done ++ summands_of (map name_with rest) (map pair_of l) (f ∷ later') ≡ summands_of (map name_with names) (map pair_of quotients) factors) el (subst (λ l. map summand_of done ++ summands_of (map name_with rest) (map pair_of left) l ≡ summands_of (map name_with names) (map pair_of quotients) factors) ef pairing.value)) in
+    let whole : List Summand = summands_of (map name_with names) (map pair_of quotients) factors in
+    let with_factors =
+    subst (λ l. map summand_of done ++ summands_of (map name_with rest) (map pair_of left) l ≡ whole) ef pairing.value in
+    let with_quotients =
+    subst (λ l. map summand_of done ++ summands_of (map name_with rest) (map pair_of l) (f ∷ later') ≡ whole) el with_factors in
+    let before : map summand_of done ++ summands_of (map name_with (j ∷ rest')) (map pair_of (q ∷ left')) (f ∷ later') ≡ whole =
+    subst (λ r. map summand_of done ++ summands_of (map name_with r) (map pair_of (q ∷ left')) (f ∷ later') ≡ whole) er with_quotients in
     record {
       value =
           ap (λ d. map summand_of d ++ summands_of (map name_with rest') (map pair_of left') later') ed
@@ -39,5 +46,7 @@ pairing_more {names} {rest} {rest'} {quotients} {left} {left'} {factors} {later}
       known = λ n all.
           let both = pairing.known n all in
           let names_left : All (λ i. i < n) (j ∷ rest') = subst (All (λ i. i < n)) er both.0 in
-          (All-tail (λ i. i < n) j rest' names_left, subst (All (λ (p : Part). p.name < n)) (sym ed) (All-push (λ (p : Part). p.name < n) done p both.1 (All-head (λ i. i < n) j rest' names_left)));
+          let name_here = All-head (λ i. i < n) j rest' names_left in
+          let pushed = All-push (λ (p : Part). p.name < n) done p both.1 name_here in
+          (All-tail (λ i. i < n) j rest' names_left, subst (All (λ (p : Part). p.name < n)) (sym ed) pushed);
     }
