@@ -22,7 +22,8 @@ module _ (names : List Naming) (operators : Bool) (text : List ℕ) where
   is_read : (x : Expr) → IsSpelled names operators x text → Taken (expression (declared names) operators) start x []
   unfolding start
   is_read x spelled =
-      Takes-expression (scan_of text 0).bad (declared names) operators x start _ [] refl (sym (append-nil _)) spelled.stands (record { no_divisor = refl; no_power = refl; no_factor = refl; no_plus = refl; no_minus = refl })
+      Takes-expression (scan_of text 0).bad (declared names) operators x start _ [] refl (sym (append-nil _)) spelled.stands
+      (record { no_divisor = refl; no_power = refl; no_factor = refl; no_plus = refl; no_minus = refl })
 
   pub one_expression : (x y : Expr) → IsSpelled names operators x text → IsSpelled names operators y text → x ≡ y
   one_expression x y first second =

@@ -44,7 +44,8 @@ norm_is c es same = ap norm_of same
 
 module _ (a : Name → Action) where
   -- a coefficient before symbols has the term of both
-  before_has : (c : Polynomial) (es : List (Mono × ℤ)) (qs : List Power) → c.terms ≡ es → 0 < length es → Each IsSmallEntry es → IsSmall c → Each (λ p. p.is_symbol ≡ true) qs → total (all_of qs) ≤ largest_degree
+  before_has : (c : Polynomial) (es : List (Mono × ℤ)) (qs : List Power) → c.terms ≡ es → 0 < length es → Each IsSmallEntry es → IsSmall c →
+      Each (λ p. p.is_symbol ≡ true) qs → total (all_of qs) ≤ largest_degree
       → TermHas a (before_symbols es qs) (term_of (all_of qs) c) (length es) (norm_of es)
   before_has c [] qs same some entries known symbols low = absurd (omega (arith, some))
   before_has c (e ∷ []) qs same some entries known symbols low =
@@ -58,7 +59,8 @@ module _ (a : Name → Action) where
       let weighed : term_norm (term_of (all_of qs) c) ≡ norm_of (e ∷ f ∷ es) = term_norm-one (all_of qs) c known.some ∙ norm_is c (e ∷ f ∷ es) same in
       let few : length (e ∷ f ∷ es) ≤ most_terms = subst (λ (n : ℕ). n ≤ most_terms) (count_is c (e ∷ f ∷ es) same) known.few in
       let small : norm_of (e ∷ f ∷ es) ≤ largest_norm = subst (λ (n : ℕ). n ≤ largest_norm) (norm_is c (e ∷ f ∷ es) same) known.small in
-      let value = subst (λ (ds : List (Mono × ℤ)). 0 < length ds → Each IsSmallEntry ds → length ds ≤ most_terms → norm_of ds ≤ largest_norm → fraction_of a (sum_expression (entry_expressions ds)) ≡ Ok (over_one (term_of unit c))) same (written_value a c) some entries few small in
+      let value = subst (λ (ds : List (Mono × ℤ)). 0 < length ds → Each IsSmallEntry ds → length ds ≤ most_terms → norm_of ds ≤ largest_norm →
+      fraction_of a (sum_expression (entry_expressions ds)) ≡ Ok (over_one (term_of unit c))) same (written_value a c) some entries few small in
       record {
         value = term_of (all_of qs) c;
         evaluates = before_symbols_value a (sum_expression (entry_expressions (e ∷ f ∷ es))) c qs value known symbols low;
@@ -94,10 +96,12 @@ module _ (a : Name → Action) where
   entries_make : (e : Mono × Polynomial) (es : List (Mono × Polynomial)) → IsSmallOperatorEntry e → Adds a (operator_expressions es) (operator_of es) (entries_count es) (entries_norm es)
       → Makes a (operator_expressions (e ∷ es)) (operator_of (e ∷ es)) (entries_count (e ∷ es)) (entries_norm (e ∷ es))
   entries_make e es known later =
-      let all = Makes-append a (operator_entry_expressions e) (operator_expressions es) (term_of e.0 e.1) (operator_of es) (length e.1.terms) (norm_of e.1.terms) (entries_count es) (entries_norm es) (entry_makes e known) later in
+      let all = Makes-append a (operator_entry_expressions e) (operator_expressions es) (term_of e.0 e.1) (operator_of es) (length e.1.terms)
+      (norm_of e.1.terms) (entries_count es) (entries_norm es) (entry_makes e known) later in
       subst (λ (k : ℕ). Makes a (operator_expressions (e ∷ es)) (operator_of (e ∷ es)) k (entries_norm (e ∷ es))) (counted e es)
       (subst (λ (s : ℕ). Makes a (operator_expressions (e ∷ es)) (operator_of (e ∷ es)) (length e.1.terms + entries_count es) s) (weighed e es)
-      (subst (λ (w : Operator). Makes a (operator_expressions (e ∷ es)) w (length e.1.terms + entries_count es) (norm_of e.1.terms + entries_norm es)) (sym (operator_laws.sums_of_terms.of_more e es)) all))
+      (subst (λ (w : Operator). Makes a (operator_expressions (e ∷ es)) w (length e.1.terms + entries_count es)
+      (norm_of e.1.terms + entries_norm es)) (sym (operator_laws.sums_of_terms.of_more e es)) all))
 
   entries_add : (es : List (Mono × Polynomial)) → Each IsSmallOperatorEntry es → Adds a (operator_expressions es) (operator_of es) (entries_count es) (entries_norm es)
   entries_add [] known = subst (λ (w : Operator). Adds a [] w 0 0) (sym operator_laws.sums_of_terms.of_none) (Adds-none a)

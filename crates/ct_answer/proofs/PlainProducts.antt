@@ -156,7 +156,8 @@ module _ (a : Name → Action) where
   symbols_before k =
       by_symbols (λ m. power (symbol_before a) m (term_of k polys.one) ≡ term_of (m · k) polys.one)
       (power_unit (symbol_before a) _ ∙ ap (λ (n : Mono). term_of n polys.one) (sym (·_comm unit k ∙ ·-unit k)))
-      (λ i m same. power_symbol (symbol_before a) (symbols_commute a) i m _ ∙ ap (symbol_before a i) same ∙ symbol_before-one a i (m · k) ∙ ap (λ (n : Mono). term_of n polys.one) (sym (·_assoc (symbol i) m k)))
+      (λ i m same. power_symbol (symbol_before a) (symbols_commute a) i m _ ∙ ap (symbol_before a i) same ∙ symbol_before-one a i (m · k)
+      ∙ ap (λ (n : Mono). term_of n polys.one) (sym (·_assoc (symbol i) m k)))
 
   -- a power of symbols behind a term
   pub times_symbols : (m k : Mono) (c : Polynomial) → c ≢ polys.zero → count c ≤ most_terms → norm c ≤ largest_norm → degree c ≤ largest_degree → total m + total k ≤ largest_degree

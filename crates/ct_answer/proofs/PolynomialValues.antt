@@ -106,7 +106,8 @@ module _ (a : Name → Action) where
   entries_make : (e : Mono × ℤ) (es : List (Mono × ℤ)) → IsSmallEntry e → Adds a (entry_expressions es) (term_of unit (poly_of es)) (length es) (norm_of es)
       → Makes a (entry_expressions (e ∷ es)) (term_of unit (poly_of (e ∷ es))) (length (e ∷ es)) (norm_of (e ∷ es))
   entries_make e es known later =
-      let all = Makes-append a (entry_expression e ∷ []) (entry_expressions es) (term_of unit (term e.0 e.1)) (term_of unit (poly_of es)) 1 (nat_abs e.1) (length es) (norm_of es) (Makes-one a _ _ _ _ (entry_has e known)) later in
+      let all = Makes-append a (entry_expression e ∷ []) (entry_expressions es) (term_of unit (term e.0 e.1)) (term_of unit (poly_of es)) 1
+      (nat_abs e.1) (length es) (norm_of es) (Makes-one a _ _ _ _ (entry_has e known)) later in
       let one : 1 + length es ≡ length (e ∷ es) = omega arith in
       subst (λ (k : ℕ). Makes a (entry_expressions (e ∷ es)) (term_of unit (poly_of (e ∷ es))) k (norm_of (e ∷ es))) one
       (subst (λ (s : ℕ). Makes a (entry_expressions (e ∷ es)) (term_of unit (poly_of (e ∷ es))) (1 + length es) s) (norm-cons e es)
@@ -137,7 +138,8 @@ module _ (a : Name → Action) where
   polynomial_written c known few small =
       sum_value_of c.terms known few small ∙ ap (λ (d : Polynomial). Ok (over_one (term_of unit d))) (rebuilt c)
     where
-      sum_value_of : (es : List (Mono × ℤ)) → Each IsSmallEntry es → length es ≤ most_terms → norm_of es ≤ largest_norm → fraction_of a (sum_expression (entry_expressions es)) ≡ Ok (over_one (term_of unit (poly_of es)))
+      sum_value_of : (es : List (Mono × ℤ)) → Each IsSmallEntry es → length es ≤ most_terms → norm_of es ≤ largest_norm →
+          fraction_of a (sum_expression (entry_expressions es)) ≡ Ok (over_one (term_of unit (poly_of es)))
       sum_value_of [] known few small = zero_value a ∙ ap (λ (x : Operator). Ok (over_one x)) (sym (ap (term_of unit) polynomial_laws.sums_of_terms.of_none ∙ term_of-zero unit))
       sum_value_of (e ∷ es) known few small =
           sum_value a (entry_expressions (e ∷ es)) (term_of unit (poly_of (e ∷ es))) (length (e ∷ es)) (norm_of (e ∷ es)) (entries_make e es known.0 (Adds-entries es known.1)).begins few small

@@ -70,7 +70,8 @@ module _ (a : Name → Action) where
   names_power s zero m low = ap (λ (k : Mono). Ok (over_one (term_of unit (term k (pos 1))))) (sym (·-unit m))
   names_power s (suc n) m low =
       let sum = total-· s (raised s n) in
-      ap (λ (c : Checked Value). c >>= (λ more. power_from a more n (over_one (term_of unit (term s (pos 1)))))) (times_over_one a _ _ _ (more_names m s (pos 1) tt (omega arith) (omega (arith, sum, low))))
+      ap (λ (c : Checked Value). c >>= (λ more. power_from a more n (over_one (term_of unit (term s (pos 1))))))
+      (times_over_one a _ _ _ (more_names m s (pos 1) tt (omega arith) (omega (arith, sum, low))))
       ∙ names_power s n (m · s) (omega (arith, sum, total-· m s, low)) ∙ ap (λ (k : Mono). Ok (over_one (term_of unit (term k (pos 1))))) (·_assoc m s (raised s n))
 
   symbols_power : (s : Mono) (n : ℕ) (m : Mono) → total m + total (raised s n) ≤ largest_degree
@@ -79,7 +80,9 @@ module _ (a : Name → Action) where
   symbols_power s zero m low = ap (λ (k : Mono). Ok (over_one (term_of k polys.one))) (sym (·-unit m))
   symbols_power s (suc n) m low =
       let sum = total-· s (raised s n) in
-      ap (λ (c : Checked Value). c >>= (λ more. power_from a more n (over_one (term_of s polys.one)))) (times_over_one a _ _ _ (times_symbols a m s polys.one small_one.some small_one.few small_one.small small_one.low (omega (arith, sum, low))))
+      ap (λ (c : Checked Value). c >>= (λ more. power_from a more n (over_one (term_of s polys.one))))
+      (times_over_one a _ _ _ (times_symbols a m s polys.one small_one.some small_one.few small_one.small small_one.low
+      (omega (arith, sum, low))))
       ∙ symbols_power s n (m · s) (omega (arith, sum, total-· m s, low)) ∙ ap (λ (k : Mono). Ok (over_one (term_of k polys.one))) (·_assoc m s (raised s n))
 
   value-Name : (k : ℕ) → fraction_of a (e.Name k) ≡ Ok (over_one (term_of unit (term (symbol (name_with k)) (pos 1))))
@@ -130,8 +133,10 @@ module _ (a : Name → Action) where
   names_value [] n x rest names some small low = ap (λ (k : Mono). product_from a (Some (over_one (term_of unit (term k x)))) rest) (sym (·-unit n))
   names_value (p ∷ ps) n x rest names some small low =
       let sum = total-· (monomial_of p) (all_of ps) in
-      ap (λ (c : Checked Value). c >>= (λ y. checked_times a (over_one (term_of unit (term n x))) y >>= (λ more. product_from a (Some more) (fractions a (power_expressions ps) ++ rest)))) (value-name p names.0 (omega (arith, sum, low)))
-      ∙ ap (λ (c : Checked Value). c >>= (λ more. product_from a (Some more) (fractions a (power_expressions ps) ++ rest))) (times_over_one a _ _ _ (more_names n (monomial_of p) x some small (omega (arith, sum, low))))
+      ap (λ (c : Checked Value). c >>= (λ y. checked_times a (over_one (term_of unit (term n x))) y >>=
+      (λ more. product_from a (Some more) (fractions a (power_expressions ps) ++ rest)))) (value-name p names.0 (omega (arith, sum, low)))
+      ∙ ap (λ (c : Checked Value). c >>= (λ more. product_from a (Some more) (fractions a (power_expressions ps) ++ rest)))
+      (times_over_one a _ _ _ (more_names n (monomial_of p) x some small (omega (arith, sum, low))))
       ∙ names_value ps (n · monomial_of p) x rest names.1 some small (omega (arith, sum, total-· n (monomial_of p), low))
       ∙ ap (λ (k : Mono). product_from a (Some (over_one (term_of unit (term k x)))) rest) (·_assoc n (monomial_of p) (all_of ps))
 
@@ -141,7 +146,9 @@ module _ (a : Name → Action) where
   symbols_value [] m c symbols known low = ap (λ (k : Mono). Ok (over_one (term_of k c))) (sym (·-unit m))
   symbols_value (p ∷ ps) m c symbols known low =
       let sum = total-· (monomial_of p) (all_of ps) in
-      ap (λ (f : Checked Value). f >>= (λ y. checked_times a (over_one (term_of m c)) y >>= (λ more. product_from a (Some more) (fractions a (power_expressions ps))))) (value-symbol p symbols.0 (omega (arith, sum, low)))
-      ∙ ap (λ (f : Checked Value). f >>= (λ more. product_from a (Some more) (fractions a (power_expressions ps)))) (times_over_one a _ _ _ (times_symbols a m (monomial_of p) c known.some known.few known.small known.low (omega (arith, sum, low))))
+      ap (λ (f : Checked Value). f >>= (λ y. checked_times a (over_one (term_of m c)) y >>=
+      (λ more. product_from a (Some more) (fractions a (power_expressions ps))))) (value-symbol p symbols.0 (omega (arith, sum, low)))
+      ∙ ap (λ (f : Checked Value). f >>= (λ more. product_from a (Some more) (fractions a (power_expressions ps))))
+      (times_over_one a _ _ _ (times_symbols a m (monomial_of p) c known.some known.few known.small known.low (omega (arith, sum, low))))
       ∙ symbols_value ps (m · monomial_of p) c symbols.1 known (omega (arith, sum, total-· m (monomial_of p), low))
       ∙ ap (λ (k : Mono). Ok (over_one (term_of k c))) (·_assoc m (monomial_of p) (all_of ps))

@@ -46,8 +46,11 @@ Reads-token s bs text ls some piece rest whole fresh at e =
     let same : length bs ≤ length bs = omega arith in
     let back : drop (length bs) (bs ++ text) ≡ text = drop-append-le (length bs) bs text same ∙ ap (λ (xs : List ℕ). xs ++ text) (drop_all (length bs) bs same) in
     let front : take (length bs) (bs ++ text) ≡ bs = take-append-le (length bs) bs text same ∙ take_all (length bs) bs same in
-    let step : scanned fresh at 0 (bs ++ text) ≡ with_piece (Lexeme s (length bs)) at (scanned (is_line_end s) (at + length bs) 0 (drop (length bs) (bs ++ text))) = scanned-piece fresh at (bs ++ text) (Lexeme s (length bs)) (piece fresh) some within in
-    let steps : scanned fresh at 0 (bs ++ text) ≡ with_piece (Lexeme s (length bs)) at (scanned (is_line_end s) (at + length bs) 0 text) = step ∙ ap (λ (t : List ℕ). with_piece (Lexeme s (length bs)) at (scanned (is_line_end s) (at + length bs) 0 t)) back in
+    let step : scanned fresh at 0 (bs ++ text)
+    ≡ with_piece (Lexeme s (length bs)) at (scanned (is_line_end s) (at + length bs) 0 (drop (length bs) (bs ++ text))) =
+    scanned-piece fresh at (bs ++ text) (Lexeme s (length bs)) (piece fresh) some within in
+    let steps : scanned fresh at 0 (bs ++ text) ≡ with_piece (Lexeme s (length bs)) at (scanned (is_line_end s) (at + length bs) 0 text) = step
+    ∙ ap (λ (t : List ℕ). with_piece (Lexeme s (length bs)) at (scanned (is_line_end s) (at + length bs) 0 t)) back in
     let far : drop (at + length bs) whole ≡ text = sym (drop-drop (length bs) at whole) ∙ ap (drop (length bs)) e ∙ back in
     let size : at + length bs - at ≡ length bs = omega arith in
     let cut : slice at (at + length bs) whole ≡ bs = ap₂ (λ (k : ℕ) (t : List ℕ). take k t) size e ∙ front in

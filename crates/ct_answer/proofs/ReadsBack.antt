@@ -25,7 +25,8 @@ coefficient_of_one p = at-term_of unit unit p ∙ pick-same unit unit p refl
 polynomial_value : (a : Name → Action) (names : List Naming) (p : Polynomial) → PolynomialFits names p → checked_polynomial a (polynomial_expression p) ≡ Ok p
 unfolding count norm value_of
 polynomial_value a names p fits =
-    ap (λ (c : Checked Value). (c >>= (λ v. let r : Checked Operator = Ok v.operator in r)) >>= (λ x. Ok (polynomial_at x unit))) (polynomial_written a p (small_entries p fits.low fits.small) fits.few fits.small)
+    ap (λ (c : Checked Value). (c >>= (λ v. let r : Checked Operator = Ok v.operator in r)) >>= (λ x. Ok (polynomial_at x unit)))
+    (polynomial_written a p (small_entries p fits.low fits.small) fits.few fits.small)
     ∙ ap Ok (coefficient_of_one p)
 
 pub polynomials_are_read : PrintedPolynomialsAreRead

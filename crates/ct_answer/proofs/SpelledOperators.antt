@@ -39,7 +39,8 @@ module _ (names : List Naming) (known : IsAlgebra names) (depth : ℕ) where
   unfolding IsNested
   Writes-nested e es fits =
       let within : Writes false true (entries_text names true (e ∷ es)) (IsSum (declared names) true (IsNested (declared names) true depth) (sum_expression (entry_expressions (e ∷ es)))) =
-      Writes-as false true _ (Sum names known true (IsNested (declared names) true depth) (entry_expressions (e ∷ es))) _ (λ ls h. sum_is names known true (IsNested (declared names) true depth) (entry_expressions (e ∷ es)) ls h)
+      Writes-as false true _ (Sum names known true (IsNested (declared names) true depth) (entry_expressions (e ∷ es))) _
+      (λ ls h. sum_is names known true (IsNested (declared names) true depth) (entry_expressions (e ∷ es)) ls h)
       (Writes-first_entries names known true (IsNested (declared names) true depth) e es fits) in
       let first = Writes-joined true false true (40 ∷ []) (entries_text names true (e ∷ es)) (one (lexeme.Sign 40)) _ (Writes-sign 40 open_parenthesis_is_plain) within in
       Writes-before true _ _ (Writes-joined true true false ((40 ∷ []) ++ entries_text names true (e ∷ es)) (41 ∷ []) _ (one (lexeme.Sign 41)) first (Writes-sign 41 close_parenthesis_is_plain))
@@ -98,7 +99,8 @@ module _ (names : List Naming) (known : IsAlgebra names) (depth : ℕ) where
       → Writes true true (flat_map (operator_entry_text names false) es) (each (MoreTerm names known true Inner) (operator_expressions es))
   Writes-more_operators [] fits = Writes-nothing true
   Writes-more_operators (e ∷ es) fits =
-      let all = Writes-joined true true true (operator_entry_text names false e) (flat_map (operator_entry_text names false) es) (each (MoreTerm names known true Inner) (operator_entry_expressions e)) (each (MoreTerm names known true Inner) (operator_expressions es))
+      let all = Writes-joined true true true (operator_entry_text names false e) (flat_map (operator_entry_text names false) es)
+      (each (MoreTerm names known true Inner) (operator_entry_expressions e)) (each (MoreTerm names known true Inner) (operator_expressions es))
       (Writes-more_product e.1.terms (symbols_in e.0) fits.0.some fits.0.entries fits.0.symbols) (Writes-more_operators es fits.1) in
       Writes-as true true _ _ _ (λ ls h. each-append (MoreTerm names known true Inner) (operator_entry_expressions e) (operator_expressions es) ls h) all
 
@@ -108,13 +110,16 @@ module _ (names : List Naming) (known : IsAlgebra names) (depth : ℕ) where
       let parts = joined_to_right h in
       record { front = parts.front; back = parts.back; parts = parts.parts; first = parts.first; second = each-append (MoreTerm names known true Inner) ts us parts.back parts.second }
 
-  Writes-entries : (es : List (Mono × Polynomial)) → Each (OperatorEntryFits names) es → Writes false true (operator_entries_text names es) (IsSum (declared names) true Inner (sum_expression (operator_expressions es)))
+  Writes-entries : (es : List (Mono × Polynomial)) → Each (OperatorEntryFits names) es →
+      Writes false true (operator_entries_text names es) (IsSum (declared names) true Inner (sum_expression (operator_expressions es)))
   Writes-entries [] fits = zero_is names known true Inner
   Writes-entries (e ∷ es) fits =
-      let all = Writes-joined false true true (operator_entry_text names true e) (flat_map (operator_entry_text names false) es) (Sum names known true Inner (operator_entry_expressions e)) (each (MoreTerm names known true Inner) (operator_expressions es))
+      let all = Writes-joined false true true (operator_entry_text names true e) (flat_map (operator_entry_text names false) es)
+      (Sum names known true Inner (operator_entry_expressions e)) (each (MoreTerm names known true Inner) (operator_expressions es))
       (Writes-first_product e.1.terms (symbols_in e.0) fits.0.some fits.0.entries fits.0.symbols) (Writes-more_operators es fits.1) in
       Writes-as false true _ _ _ (λ ls h. sum_is names known true Inner (operator_expressions (e ∷ es)) ls (sum-append (operator_entry_expressions e) (operator_expressions es) ls h)) all
 
-  pub Writes-operator : (p : Operator) → Each (OperatorEntryFits names) p.terms → Writes false true (operator_text names p) (IsSum (declared names) true (IsNested (declared names) true (suc depth)) (operator_expression p))
+  pub Writes-operator : (p : Operator) → Each (OperatorEntryFits names) p.terms →
+      Writes false true (operator_text names p) (IsSum (declared names) true (IsNested (declared names) true (suc depth)) (operator_expression p))
   unfolding operator_text
   Writes-operator p fits = Writes-entries p.terms fits

@@ -79,7 +79,9 @@ module _ (names : List Naming) (known : IsAlgebra names) (operators : Bool) (InP
       let text : List ℕ = (naming_at names k).text in
       let first = Writes-joined false true false w (91 ∷ []) (one (lexeme.Word w)) (one (lexeme.Sign 91)) (Writes-word w word) (Writes-sign 91 open_bracket_is_plain) in
       let second = Writes-joined false false true (w ++ 91 ∷ []) text (one (lexeme.Word w) ▸ one (lexeme.Sign 91)) (one (lexeme.Word text)) first (Writes-word text (is_word names known k within)) in
-      let third = Writes-joined false true false ((w ++ 91 ∷ []) ++ text) (93 ∷ []) (one (lexeme.Word w) ▸ one (lexeme.Sign 91) ▸ one (lexeme.Word text)) (one (lexeme.Sign 93)) second (Writes-sign 93 close_bracket_is_plain) in
+      let third = Writes-joined false true false ((w ++ 91 ∷ []) ++ text) (93 ∷ [])
+      (one (lexeme.Word w) ▸ one (lexeme.Sign 91) ▸ one (lexeme.Word text)) (one (lexeme.Sign 93)) second
+      (Writes-sign 93 close_bracket_is_plain) in
       Writes-text false false (((w ++ 91 ∷ []) ++ text) ++ 93 ∷ []) ((w ++ 91 ∷ text) ++ 93 ∷ []) (symbol w text) (ap (λ (t : List ℕ). t ++ 93 ∷ []) (append_assoc w (91 ∷ []) text)) third
 
   Writes-symbol : (k : ℕ) → k < length names → IsTrue operators → (naming_at names k).action ≢ actions.Still → Writes false false (symbol_text (naming_at names k)) (Atom (e.Symbol k))
@@ -122,7 +124,8 @@ module _ (names : List Naming) (known : IsAlgebra names) (operators : Bool) (InP
           let first = Writes-joined false true false (base_text names p) (94 ∷ []) (Atom (base_expression p)) (one (lexeme.Sign 94)) base (Writes-sign 94 caret_is_plain) in
           let exponent : Writes false true (fmt.decimal p.exponent) (number largest_degree p.exponent) =
           Writes-as false true _ (one (lexeme.Number p.exponent)) (number largest_degree p.exponent) (λ ls h. (low, h)) (Writes-number p.exponent (omega (arith, low))) in
-          let all = Writes-joined false false true (base_text names p ++ 94 ∷ []) (fmt.decimal p.exponent) (Atom (base_expression p) ▸ one (lexeme.Sign 94)) (number largest_degree p.exponent) first exponent in
+          let all = Writes-joined false false true (base_text names p ++ 94 ∷ []) (fmt.decimal p.exponent)
+          (Atom (base_expression p) ▸ one (lexeme.Sign 94)) (number largest_degree p.exponent) first exponent in
           Writes-text false true _ _ _ (append_assoc (base_text names p) (94 ∷ []) (fmt.decimal p.exponent))
           (Writes-as false true _ (Atom (base_expression p) ▸ one (lexeme.Sign 94) ▸ number largest_degree p.exponent) _ (λ ls h. IsFactor.power (base_expression p) p.exponent refl h) all)
 
@@ -146,7 +149,8 @@ module _ (names : List Naming) (known : IsAlgebra names) (operators : Bool) (InP
   Writes-number_alone n small =
       term_from (e.Whole (pos n)) [] _ false true (Writes-as false true _ (Factor (e.Whole (pos n))) _ (λ ls h. to_nothing h) (Writes-whole_number n small))
 
-  pub Writes-term : (c : ℤ) (ps : List Power) → unsigned_abs c ≤ largest_norm → Each (PowerFits names operators) ps → Writes false true (term_text names c ps) (ATerm (term_expression (unsigned_abs c) ps))
+  pub Writes-term : (c : ℤ) (ps : List Power) → unsigned_abs c ≤ largest_norm → Each (PowerFits names operators) ps →
+      Writes false true (term_text names c ps) (ATerm (term_expression (unsigned_abs c) ps))
   unfolding term_text
   Writes-term c [] small fits = Writes-number_alone (unsigned_abs c) small
   Writes-term c (p ∷ ps) small fits = by (unsigned_abs c == 1)
@@ -158,7 +162,9 @@ module _ (names : List Naming) (known : IsAlgebra names) (operators : Bool) (InP
           (ATerm (product_of (cond is_one (power_expressions (p ∷ ps)) (e.Whole (pos (unsigned_abs c)) ∷ power_expressions (p ∷ ps)))))
       by true =
           term_from (power_expression p) (power_expressions ps) _ false true
-          (Writes-joined false true true (power_text names p) (later_powers names ps) (Factor (power_expression p)) (each MoreFactor (power_expressions ps)) (Writes-power p fits.0) (Writes-later ps fits.1))
+          (Writes-joined false true true (power_text names p) (later_powers names ps) (Factor (power_expression p))
+          (each MoreFactor (power_expressions ps)) (Writes-power p fits.0) (Writes-later ps fits.1))
       by false =
           term_from (e.Whole (pos (unsigned_abs c))) (power_expressions (p ∷ ps)) _ false true
-          (Writes-joined false true true (fmt.decimal (unsigned_abs c)) (later_powers names (p ∷ ps)) (Factor (e.Whole (pos (unsigned_abs c)))) (each MoreFactor (power_expressions (p ∷ ps))) (Writes-whole_number (unsigned_abs c) small) later)
+          (Writes-joined false true true (fmt.decimal (unsigned_abs c)) (later_powers names (p ∷ ps)) (Factor (e.Whole (pos (unsigned_abs c))))
+          (each MoreFactor (power_expressions (p ∷ ps))) (Writes-whole_number (unsigned_abs c) small) later)

@@ -74,16 +74,20 @@ module _ (names : List Naming) (known : IsAlgebra names) (operators : Bool) wher
     Sum [] ls = ⊥
     Sum (t ∷ ts) ls = (First t ▸ each MoreTerm ts) ls
 
-    pub Writes-first_term : (c : ℤ) (ps : List Power) → unsigned_abs c ≤ largest_norm → Each (PowerFits names operators) ps → Writes false true (signed_term names true c ps) (First (signed_expression c ps))
+    pub Writes-first_term : (c : ℤ) (ps : List Power) → unsigned_abs c ≤ largest_norm → Each (PowerFits names operators) ps →
+        Writes false true (signed_term names true c ps) (First (signed_expression c ps))
     unfolding signed_term
     Writes-first_term c ps small fits =
-        Writes-joined false false true (sign_text true (is_negative c)) (term_text names c ps) (optional (lexeme.Sign minus) (is_negative c)) (ATerm names known operators InParentheses (term_expression (unsigned_abs c) ps))
+        Writes-joined false false true (sign_text true (is_negative c)) (term_text names c ps) (optional (lexeme.Sign minus) (is_negative c))
+        (ATerm names known operators InParentheses (term_expression (unsigned_abs c) ps))
         (Writes-first_sign (is_negative c)) (Writes-term names known operators InParentheses c ps small fits)
 
-    pub Writes-more_term : (c : ℤ) (ps : List Power) → unsigned_abs c ≤ largest_norm → Each (PowerFits names operators) ps → Writes true true (signed_term names false c ps) (MoreTerm (signed_expression c ps))
+    pub Writes-more_term : (c : ℤ) (ps : List Power) → unsigned_abs c ≤ largest_norm → Each (PowerFits names operators) ps →
+        Writes true true (signed_term names false c ps) (MoreTerm (signed_expression c ps))
     unfolding signed_term
     Writes-more_term c ps small fits =
-        Writes-joined true false true (sign_text false (is_negative c)) (term_text names c ps) (one (lexeme.Sign (sign_of (is_negative c)))) (ATerm names known operators InParentheses (term_expression (unsigned_abs c) ps))
+        Writes-joined true false true (sign_text false (is_negative c)) (term_text names c ps) (one (lexeme.Sign (sign_of (is_negative c))))
+        (ATerm names known operators InParentheses (term_expression (unsigned_abs c) ps))
         (Writes-later_sign (is_negative c)) (Writes-term names known operators InParentheses c ps small fits)
 
     -- ---- polynomials
@@ -94,7 +98,8 @@ module _ (names : List Naming) (known : IsAlgebra names) (operators : Bool) wher
         Writes-joined true true true (entry_text names false e) (flat_map (entry_text names false) es) (MoreTerm (entry_expression e)) (each MoreTerm (entry_expressions es))
         (Writes-more_term e.1 (names_in e.0) fits.0.small fits.0.powers) (Writes-more_entries es fits.1)
 
-    pub Writes-first_entries : (e : Mono × ℤ) (es : List (Mono × ℤ)) → Each (EntryFits names operators) (e ∷ es) → Writes false true (entries_text names true (e ∷ es)) (Sum (entry_expressions (e ∷ es)))
+    pub Writes-first_entries : (e : Mono × ℤ) (es : List (Mono × ℤ)) → Each (EntryFits names operators) (e ∷ es) →
+        Writes false true (entries_text names true (e ∷ es)) (Sum (entry_expressions (e ∷ es)))
     unfolding entries_text
     Writes-first_entries e es fits =
         Writes-joined false true true (entry_text names true e) (flat_map (entry_text names false) es) (First (entry_expression e)) (each MoreTerm (entry_expressions es))
@@ -113,14 +118,24 @@ module _ (names : List Naming) (known : IsAlgebra names) (operators : Bool) wher
     pub zero_is : Writes false true (codes "0") (IsSum (declared names) operators InParentheses (e.Whole (pos 0)))
     unfolding fmt.digits product_of
     zero_is =
-        Writes-as false true (codes "0") _ _ (λ ls h. record { negative = false; first = e.Whole (pos 0); more = []; value = refl; spelled = to_nothing (record { front = []; back = ls; parts = refl; first = refl; second = h }) })
+        Writes-as false true (codes "0") _ _ (λ ls h. record {
+          negative = false;
+          first = e.Whole (pos 0);
+          more = [];
+          value = refl;
+          spelled =
+              to_nothing (record { front = []; back = ls; parts = refl; first = refl; second = h });
+        })
         (Writes-number_alone names known operators InParentheses 0 (omega arith))
 
-    pub Writes-polynomial : (p : Polynomial) → Each (EntryFits names operators) p.terms → Writes false true (polynomial_text names p) (IsSum (declared names) operators InParentheses (polynomial_expression p))
+    pub Writes-polynomial : (p : Polynomial) → Each (EntryFits names operators) p.terms →
+        Writes false true (polynomial_text names p) (IsSum (declared names) operators InParentheses (polynomial_expression p))
     unfolding polynomial_text
     Writes-polynomial p fits = by p.terms fits
       where
-        by : (es : List (Mono × ℤ)) → Each (EntryFits names operators) es → Writes false true (cond (length es == 0) (codes "0") (entries_text names true es)) (IsSum (declared names) operators InParentheses (sum_expression (entry_expressions es)))
+        by : (es : List (Mono × ℤ)) → Each (EntryFits names operators) es →
+            Writes false true (cond (length es == 0) (codes "0") (entries_text names true es))
+            (IsSum (declared names) operators InParentheses (sum_expression (entry_expressions es)))
         by [] fits = zero_is
         by (e ∷ es) fits =
             let some : (suc (length es) == 0) ≡ false = ne_eqb (suc (length es)) 0 (λ none. omega arith) in

@@ -104,7 +104,8 @@ module _ (a : Name → Action) where
 
   first_value : (negative : Bool) (x w : Operator) → with_sign negative x ≡ w → term_count x ≤ most_terms → term_norm x ≤ largest_norm → joined a None negative (over_one x) ≡ Ok (over_one w)
   first_value true x w sign few small =
-      negated_over_one x _ (difference_fits no_operator x (omega (arith, term_count-none, few)) (omega (arith, term_norm-none, small))) ∙ ap (λ (y : Operator). Ok (over_one y)) (none_sum (negative x) ∙ sign)
+      negated_over_one x _ (difference_fits no_operator x (omega (arith, term_count-none, few)) (omega (arith, term_norm-none, small)))
+      ∙ ap (λ (y : Operator). Ok (over_one y)) (none_sum (negative x) ∙ sign)
   first_value false x w sign few small = ap (λ (y : Operator). Ok (over_one y)) sign
 
   Adds-one : (t : Term) (w : Operator) (k s : ℕ) → TermHas t w k s → Adds (t ∷ []) w k s
@@ -112,7 +113,8 @@ module _ (a : Name → Action) where
   Adds-one t w k s known so_far rest few small = record {
     goes_on =
         ap (λ (c : Checked Value). c >>= (λ x. joined a (Some (over_one so_far)) t.0 x >>= (λ more. sum_from a (Some more) rest))) known.evaluates
-        ∙ ap (λ (c : Checked Value). c >>= (λ more. sum_from a (Some more) rest)) (joined_value so_far t.0 known.value w known.sign (omega (arith, few, known.few)) (omega (arith, small, known.small)));
+        ∙ ap (λ (c : Checked Value). c >>= (λ more. sum_from a (Some more) rest))
+        (joined_value so_far t.0 known.value w known.sign (omega (arith, few, known.few)) (omega (arith, small, known.small)));
     few = omega (arith, (sum_within so_far w).count, known.few_signed);
     small = omega (arith, (sum_within so_far w).norm, known.small_signed);
   }
@@ -186,7 +188,9 @@ module _ (a : Name → Action) where
   value-sum_of : (t : Term) (ts : List Term) → fraction_of a (grammar.sum_of t.0 t.1 ts) ≡ sum_from a None (pairs (t ∷ ts))
   value-sum_of t ts = by t.0 ts
     where
-      whole : (negative : Bool) (more : List Term) → fraction_of a (e.Sum (summand negative t.1 ∷ map (λ (u : Term). summand u.0 u.1) more)) ≡ sum_from a None ((negative, fraction_of a t.1) ∷ pairs more)
+      whole : (negative : Bool) (more : List Term) →
+          fraction_of a (e.Sum (summand negative t.1 ∷ map (λ (u : Term). summand u.0 u.1) more))
+          ≡ sum_from a None ((negative, fraction_of a t.1) ∷ pairs more)
       whole negative more = fraction_of-Sum a _ ∙ ap (sum_from a None) (signed-summands ((negative, t.1) ∷ more))
 
       by : (negative : Bool) (more : List Term) → fraction_of a (grammar.sum_of negative t.1 more) ≡ sum_from a None ((negative, fraction_of a t.1) ∷ pairs more)

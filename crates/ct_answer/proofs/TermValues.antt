@@ -75,7 +75,8 @@ module _ (a : Name → Action) where
   from_number n p ps low = by (n == 1) refl
     where
       by : (is_one : Bool) → (n == 1) ≡ is_one
-          → fraction_of a (product_of (cond is_one (power_expressions (p ∷ ps)) (e.Whole (pos n) ∷ power_expressions (p ∷ ps)))) ≡ product_from a (Some (over_one (term_of unit (term unit (pos n))))) (fractions a (power_expressions (p ∷ ps)))
+          → fraction_of a (product_of (cond is_one (power_expressions (p ∷ ps)) (e.Whole (pos n) ∷ power_expressions (p ∷ ps))))
+          ≡ product_from a (Some (over_one (term_of unit (term unit (pos n))))) (fractions a (power_expressions (p ∷ ps)))
       by true is =
           let one : n ≡ 1 = eqb-true n 1 is in
           value-product_of (power_expression p) (power_expressions ps)
@@ -111,7 +112,8 @@ module _ (a : Name → Action) where
       from_number n p (ps ++ qs) (omega (arith, total-· (monomial_of p) (all_of ps), low)) ∙ both_value n (p ∷ ps) qs some small names symbols low low_order
 
   -- a polynomial before powers of symbols
-  pub before_symbols_value : (x : Expr) (c : Polynomial) (qs : List Power) → fraction_of a x ≡ Ok (over_one (term_of unit c)) → IsSmall c → Each (λ p. p.is_symbol ≡ true) qs → total (all_of qs) ≤ largest_degree
+  pub before_symbols_value : (x : Expr) (c : Polynomial) (qs : List Power) → fraction_of a x ≡ Ok (over_one (term_of unit c)) → IsSmall c →
+      Each (λ p. p.is_symbol ≡ true) qs → total (all_of qs) ≤ largest_degree
       → fraction_of a (product_of (x ∷ power_expressions qs)) ≡ Ok (over_one (term_of (all_of qs) c))
   before_symbols_value x c qs value known symbols low =
       value-product_of x (power_expressions qs)
