@@ -5,7 +5,7 @@ use Rattle.std.specs.Prelude.{ℕ, zero, suc, pos, Ok}
 use Rattle.ct_algebra.specs.Names.{x0, x1, x2}
 use Rattle.ct_algebra.specs.Polynomial.{Polynomial}
 use Rattle.ct_algebra.specs.Substitution.{number, name}
-use Rattle.ct_mono.specs.Checked.{Checked, ◌>>=◌}
+use Rattle.ct_checked.specs.Checked.{Checked, ◌>>=◌}
 use Rattle.ct_poly.specs.Measures.{checked_plus, checked_times}
 
 -- n more factors

@@ -1,6 +1,6 @@
 // The polynomials that are timed: powers of linear forms, so that almost every monomial below a degree is there.
 ghost use Rattle.std.specs.Prelude.{◌≡◌};
-ghost use Rattle.ct_mono.specs.Checked.{Answers};
+ghost use Rattle.ct_checked.specs.Checked.{Answers};
 ghost use Rattle.bench_division.specs.Powers.{checked_power, checked_form};
 
 use ct_poly::{Fault, Poly};

@@ -14,7 +14,7 @@ use Rattle.ct_algebra.specs.Polynomial.{Polynomial, polys, norm, norm_of, degree
 use Rattle.ct_algebra.specs.Operators.{Operator}
 use Rattle.ct_algebra.specs.FreeOf.{IsWithout}
 use Rattle.ct_algebra.specs.WholeNumbers.{int_group}
-use Rattle.ct_mono.specs.Limits.{largest_degree, largest_norm}
+use Rattle.ct_checked.specs.Limits.{largest_degree, largest_norm}
 use Rattle.ct_mono.proofs.ExponentLaws.{place-name_with}
 use Rattle.ct_ore.specs.Naming.{Naming, actions_of}
 use Rattle.ct_ore.specs.TermSums.{entries_norm}

@@ -7,7 +7,7 @@ use Rattle.ct_algebra.specs.Monomial.{Mono, monomials, total}
 use Rattle.ct_algebra.specs.Polynomial.{Polynomial, polys, count, norm, norm_of, degree, degree_greatest}
 use Rattle.ct_algebra.specs.Operators.{Operator}
 use Rattle.ct_algebra.specs.WholeNumbers.{int_group}
-use Rattle.ct_mono.specs.Limits.{largest_degree, most_terms, largest_norm}
+use Rattle.ct_checked.specs.Limits.{largest_degree, most_terms, largest_norm}
 use Rattle.ct_ore.specs.Naming.{Naming}
 use Rattle.ct_ore.specs.TermSums.{entries_count, entries_norm}
 use Rattle.ct_ore.specs.Measures.{greatest, term_count, term_norm, coefficient_degree, order_of}

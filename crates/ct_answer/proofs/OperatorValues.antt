@@ -11,8 +11,8 @@ use Rattle.ct_algebra.specs.WholeNumbers.{int_group}
 use Rattle.ct_algebra.specs.Actions.{Action}
 use Rattle.ct_algebra.specs.Operators.{Operator, term_of, operator_of}
 use Rattle.ct_algebra.proofs.OperatorLawProofs as operator_laws
-use Rattle.ct_mono.specs.Checked.{Checked, ◌>>=◌}
-use Rattle.ct_mono.specs.Limits.{largest_degree, most_terms, largest_norm}
+use Rattle.ct_checked.specs.Checked.{Checked, ◌>>=◌}
+use Rattle.ct_checked.specs.Limits.{largest_degree, most_terms, largest_norm}
 use Rattle.ct_ore.specs.TermSums.{entries_count, entries_norm}
 use Rattle.ct_ore.specs.Measures.{term_count, term_norm}
 use Rattle.ct_expr.specs.ValueArithmetic.{Value, over_one}

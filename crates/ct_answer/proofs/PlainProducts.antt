@@ -12,9 +12,9 @@ use Rattle.ct_algebra.specs.Substitution.{term, number_is, one_is}
 use Rattle.ct_algebra.specs.Actions.{Action, Shift, Derive, Still, by_action}
 use Rattle.ct_algebra.specs.Operators.{Operator, term_of, product_of, symbol_before, multiple}
 use Rattle.ct_algebra.proofs.ProductRule.{multiple-term_of, product_of-term_of, product_of-polynomial, multiple-one_term, symbol_before-one, symbols_commute}
-use Rattle.ct_mono.specs.Checked.{verdict}
-use Rattle.ct_mono.specs.Limits.{largest_degree, most_terms, largest_norm}
-use Rattle.ct_mono.specs.declared.fault.Kind.{Kind}
+use Rattle.ct_checked.specs.Checked.{verdict}
+use Rattle.ct_checked.specs.Limits.{largest_degree, most_terms, largest_norm}
+use Rattle.ct_checked.specs.declared.fault.Kind.{Kind}
 use Rattle.ct_ore.specs.declared.coefficient_term.CoefficientTerm.{CoefficientTerm}
 use Rattle.ct_ore.specs.CoefficientTerms.{row_of, coefficient_terms}
 use Rattle.ct_ore.specs.Measures.{coefficient_degree, order_of, product_count, product_norm, product_overflow, checked_product}

@@ -13,7 +13,7 @@ use Rattle.ct_algebra.specs.Actions.{Action}
 use Rattle.ct_algebra.specs.Operators.{Operator, operator_group, sum_of_operators, negative, term_of}
 use Rattle.ct_algebra.proofs.OperatorTerms.{negatives_are, term_of-sum, term_of-zero, term_of_hom}
 use Rattle.ct_algebra.proofs.PolynomialLawProofs as polynomial_laws
-use Rattle.ct_mono.specs.Limits.{largest_degree, most_terms, largest_norm}
+use Rattle.ct_checked.specs.Limits.{largest_degree, most_terms, largest_norm}
 use Rattle.ct_poly.proofs.DivisionSteps.{term-neg}
 use Rattle.ct_poly.proofs.TermLists.{rebuilt}
 use Rattle.ct_expr.specs.ValueArithmetic.{over_one}

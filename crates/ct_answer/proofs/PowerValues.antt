@@ -9,8 +9,8 @@ use Rattle.ct_algebra.specs.Substitution.{term, number_is, name_is, one_is, term
 use Rattle.ct_algebra.specs.WholeNumbers.{int_is_zero}
 use Rattle.ct_algebra.specs.Actions.{Action}
 use Rattle.ct_algebra.specs.Operators.{term_of}
-use Rattle.ct_mono.specs.Checked.{Checked, ◌>>=◌}
-use Rattle.ct_mono.specs.Limits.{largest_degree, most_terms, largest_norm}
+use Rattle.ct_checked.specs.Checked.{Checked, ◌>>=◌}
+use Rattle.ct_checked.specs.Limits.{largest_degree, most_terms, largest_norm}
 use Rattle.ct_ore.specs.Measures.{checked_product}
 use Rattle.ct_expr.specs.declared.expr.Expr.TheVariants as e
 use Rattle.ct_expr.specs.ValueArithmetic.{Value, over_one, checked_times}

@@ -6,7 +6,7 @@ use Rattle.ct_algebra.specs.Polynomial.{Polynomial, count, norm}
 use Rattle.ct_algebra.specs.Actions.{Action}
 use Rattle.ct_algebra.specs.Operators.{Operator, polynomial_at, term_of}
 use Rattle.ct_algebra.proofs.OperatorTerms.{at-term_of, pick-same}
-use Rattle.ct_mono.specs.Checked.{Checked, ◌>>=◌}
+use Rattle.ct_checked.specs.Checked.{Checked, ◌>>=◌}
 use Rattle.ct_ore.specs.Naming.{Naming, actions_of}
 use Rattle.ct_expr.specs.ValueArithmetic.{Value}
 use Rattle.ct_expr.specs.Value.{value_of, checked_polynomial}

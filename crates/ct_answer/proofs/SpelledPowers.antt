@@ -6,7 +6,7 @@ use Rattle.std.specs.Fmt as fmt
 use Rattle.std.proofs.lemmas.List.{append-nil}
 use Rattle.ct_token.specs.Lexing as lexing
 use Rattle.ct_algebra.specs.Actions as actions
-use Rattle.ct_mono.specs.Limits.{largest_degree, largest_norm}
+use Rattle.ct_checked.specs.Limits.{largest_degree, largest_norm}
 use Rattle.ct_ore.specs.Naming.{Naming, IsAlgebra}
 use Rattle.ct_expr.specs.declared.expr.Expr.{Expr}
 use Rattle.ct_expr.specs.declared.expr.Expr.TheVariants as e

@@ -7,7 +7,7 @@ use Rattle.std.specs.Prelude.{unsigned_abs}
 use Rattle.std.specs.Fmt as fmt
 use Rattle.ct_algebra.specs.Monomial.{Mono}
 use Rattle.ct_algebra.specs.Polynomial.{Polynomial}
-use Rattle.ct_mono.specs.Limits.{largest_norm}
+use Rattle.ct_checked.specs.Limits.{largest_norm}
 use Rattle.ct_ore.specs.Naming.{Naming, IsAlgebra}
 use Rattle.ct_expr.specs.declared.expr.Expr.{Expr}
 use Rattle.ct_expr.specs.declared.expr.Expr.TheVariants as e

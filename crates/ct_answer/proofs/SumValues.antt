@@ -15,9 +15,9 @@ use Rattle.ct_algebra.specs.WholeNumbers.{int_group}
 use Rattle.ct_algebra.specs.Operators.{Operator, operator_group, term_of, no_operator, sum_of_operators, negative}
 use Rattle.ct_algebra.proofs.OperatorLawProofs.{group}
 use Rattle.ct_algebra.proofs.OperatorTerms.{term_of-zero}
-use Rattle.ct_mono.specs.Checked.{Checked, ◌>>=◌, verdict}
-use Rattle.ct_mono.specs.Limits.{most_terms, largest_norm}
-use Rattle.ct_mono.specs.declared.fault.Kind.{Kind}
+use Rattle.ct_checked.specs.Checked.{Checked, ◌>>=◌, verdict}
+use Rattle.ct_checked.specs.Limits.{most_terms, largest_norm}
+use Rattle.ct_checked.specs.declared.fault.Kind.{Kind}
 use Rattle.ct_ore.specs.Measures.{term_count, term_norm, checked_sum, checked_difference, difference_of_operators}
 use Rattle.ct_ore.proofs.OperatorSums.{sum_allowed, sum_within}
 use Rattle.ct_ore.proofs.WrittenOperators.{terms-no_operator}

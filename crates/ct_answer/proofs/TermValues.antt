@@ -7,8 +7,8 @@ use Rattle.ct_algebra.specs.Polynomial.{Polynomial, polys}
 use Rattle.ct_algebra.specs.Substitution.{term, number_is}
 use Rattle.ct_algebra.specs.Actions.{Action}
 use Rattle.ct_algebra.specs.Operators.{Operator, term_of}
-use Rattle.ct_mono.specs.Checked.{Checked, ◌>>=◌}
-use Rattle.ct_mono.specs.Limits.{largest_degree, largest_norm}
+use Rattle.ct_checked.specs.Checked.{Checked, ◌>>=◌}
+use Rattle.ct_checked.specs.Limits.{largest_degree, largest_norm}
 use Rattle.ct_poly.proofs.TermLists.{positive_coef}
 use Rattle.ct_ore.specs.Measures.{checked_product}
 use Rattle.ct_expr.specs.declared.expr.Expr.{Expr}

@@ -12,7 +12,7 @@ use Rattle.ct_algebra.specs.Names.{Name, place}
 use Rattle.ct_algebra.specs.Polynomial.{Polynomial, count, norm, degree}
 use Rattle.ct_algebra.specs.Operators.{Operator}
 use Rattle.ct_algebra.specs.FreeOf.{IsFreeOf, IsOver}
-use Rattle.ct_mono.specs.Limits.{largest_degree, most_terms, largest_norm}
+use Rattle.ct_checked.specs.Limits.{largest_degree, most_terms, largest_norm}
 use Rattle.ct_ore.specs.Naming.{Naming, IsAlgebra, actions_of}
 use Rattle.ct_ore.specs.Measures.{term_count, term_norm, coefficient_degree, order_of}
 use Rattle.ct_expr.specs.declared.expr.Expr.{Expr}

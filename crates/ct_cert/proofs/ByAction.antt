@@ -8,8 +8,8 @@ use Rattle.ct_algebra.specs.Names.{Name, name_with}
 use Rattle.ct_algebra.specs.Polynomial.{Polynomial, polys}
 use Rattle.ct_algebra.specs.Actions.{Action, Still, by_action}
 use Rattle.ct_algebra.specs.Certificate.{Summand}
-use Rattle.ct_mono.specs.Checked.{Answers}
-use Rattle.ct_mono.specs.declared.fault.Fault.{Fault}
+use Rattle.ct_checked.specs.Checked.{Answers}
+use Rattle.ct_checked.specs.declared.fault.Fault.{Fault}
 use Rattle.ct_mono.proofs.ExponentLaws.{place-name_with}
 use Rattle.ct_poly.specs.Measures.{checked_times, checked_shifted, checked_derived}
 use Rattle.ct_ore.specs.Naming.{Naming, actions_of}

@@ -13,7 +13,7 @@ use Rattle.ct_algebra.specs.Actions.{Action, Still}
 use Rattle.ct_algebra.specs.Operators.{Operator, operator_group, no_operator}
 use Rattle.ct_algebra.specs.FreeOf.{EachName, IsWithout, IsFreeOfAll, OperatorIsFreeOf}
 use Rattle.ct_algebra.specs.Certificate.{Summand, Certificate, Certifies}
-use Rattle.ct_mono.specs.Checked.{Checked}
+use Rattle.ct_checked.specs.Checked.{Checked}
 use Rattle.ct_cert.specs.declared.place.Place.{Place}
 use Rattle.ct_cert.specs.declared.place.Support.{Support}
 use Rattle.ct_cert.specs.Arithmetic.{checked_part, checked_identity}

@@ -11,7 +11,7 @@ use Rattle.ct_algebra.specs.Polynomial.{polys, times}
 use Rattle.ct_algebra.specs.Actions.{Action}
 use Rattle.ct_algebra.specs.Operators.{Operator, operator_group, no_operator}
 use Rattle.ct_algebra.specs.Certificate.{Summand, Certificate, difference_denominator}
-use Rattle.ct_mono.specs.Checked.{Checked}
+use Rattle.ct_checked.specs.Checked.{Checked}
 use Rattle.ct_cert.specs.declared.place.Place.{Place}
 use Rattle.ct_cert.specs.declared.place.Place.TheVariants as places
 use Rattle.ct_cert.specs.declared.place.Support.{Support}

@@ -7,7 +7,7 @@ use Rattle.ct_algebra.specs.Names.{Name}
 use Rattle.ct_algebra.specs.Actions.{Action}
 use Rattle.ct_algebra.specs.Operators.{Operator}
 use Rattle.ct_algebra.specs.Certificate.{Summand}
-use Rattle.ct_mono.specs.Checked.{Checked, ◌>>=◌}
+use Rattle.ct_checked.specs.Checked.{Checked, ◌>>=◌}
 use Rattle.ct_ore.specs.declared.answer.Part.{Part}
 use Rattle.ct_cert.specs.declared.place.Stop.{Stop}
 use Rattle.ct_cert.specs.declared.place.Stop.TheVariants as stops

@@ -11,7 +11,7 @@ use Rattle.ct_algebra.specs.Actions.{Action, Shift, Derive, Still, by_action, si
 use Rattle.ct_algebra.specs.Operators.{Operator, operator_group, no_operator, sum_of_operators, negative, term_of, symbol_before, multiple, combination}
 use Rattle.ct_algebra.specs.Certificate.{Summand, Certificate, difference_denominator, difference_numerator, differences, IsIdentity}
 use Rattle.ct_algebra.proofs.ProductRule.{product_of-polynomial, product_of-symbol}
-use Rattle.ct_mono.specs.Checked.{◌>>=◌, verdict_ok, both_fit}
+use Rattle.ct_checked.specs.Checked.{◌>>=◌, verdict_ok, both_fit}
 use Rattle.ct_poly.specs.Measures.{checked_times, checked_shifted, checked_derived, shifted, product_overflow, shift_overflow, derivative_overflow}
 use Rattle.ct_ore.specs.Measures.{checked_sum, checked_difference, difference_of_operators, checked_product, checked_combination}
 use Rattle.ct_ore.specs.Measures as operators

@@ -14,7 +14,7 @@ use Rattle.ct_algebra.specs.Polynomial.{Polynomial, polys}
 use Rattle.ct_algebra.specs.Actions.{Action, by_action}
 use Rattle.ct_algebra.specs.Operators.{Operator, operator_group, no_operator, term_of}
 use Rattle.ct_algebra.specs.Certificate.{Summand, Certificate}
-use Rattle.ct_mono.specs.Checked.{Checked, ◌>>=◌}
+use Rattle.ct_checked.specs.Checked.{Checked, ◌>>=◌}
 use Rattle.ct_poly.specs.Measures.{checked_times, checked_shifted, checked_derived}
 use Rattle.ct_ore.specs.Measures.{checked_sum, checked_difference, checked_product, checked_combination}
 

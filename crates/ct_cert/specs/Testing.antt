@@ -8,8 +8,8 @@
 -- Cited by the tests and by every call that makes some.
 use Rattle.std.specs.Prelude.{◌≡◌, Ok, Err, Bool, true, false}
 use Rattle.std.proofs.Common.{Result}
-use Rattle.ct_mono.specs.Checked.{Checked}
-use Rattle.ct_mono.specs.declared.fault.Kind.{Kind}
+use Rattle.ct_checked.specs.Checked.{Checked}
+use Rattle.ct_checked.specs.declared.fault.Kind.{Kind}
 use Rattle.ct_cert.specs.declared.place.Place.{Place}
 use Rattle.ct_cert.specs.declared.place.Stop as stop
 use Rattle.ct_cert.specs.declared.place.Stop.TheVariants as stops

@@ -3,7 +3,7 @@ ghost use Rattle.std.specs.Prelude.{◌≡◌, ◌<◌, ◌≤◌, length, map, 
 ghost use Rattle.std.specs.List.{All};
 ghost use Rattle.ct_algebra.specs.Names.{name_with};
 ghost use Rattle.ct_algebra.specs.Operators.{no_operator};
-ghost use Rattle.ct_mono.specs.Checked.{Answers};
+ghost use Rattle.ct_checked.specs.Checked.{Answers};
 ghost use Rattle.ct_ore.specs.Measures.{checked_combination};
 ghost use Rattle.ct_ore.specs.Naming.{action_of, actions_of};
 ghost use Rattle.ct_ore.specs.Answers.{summand_of};

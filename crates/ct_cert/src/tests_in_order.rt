@@ -1,7 +1,7 @@
 // The tests of a found report, in their order.
 ghost use Rattle.std.specs.Prelude.{◌≡◌, ◌<◌, Bool, Ok, map};
 ghost use Rattle.std.specs.List.{All};
-ghost use Rattle.ct_mono.specs.Checked.{Checked, Answers};
+ghost use Rattle.ct_checked.specs.Checked.{Checked, Answers};
 ghost use Rattle.ct_ore.specs.Naming.{actions_of, summed_of};
 ghost use Rattle.ct_ore.specs.Answers.{summand_of, certificate_of};
 ghost use Rattle.ct_cert.specs.Certificates.{names_of, IsSmall, IsNamed, IsAnswerFor};

@@ -2,9 +2,9 @@
 use Rattle.std.proofs.Common.{◌≡◌, Result, Ok, Err, ap}
 use Rattle.std.specs.Result.{IsErr, IsErrAnd}
 use Rattle.std.proofs.lemmas.Bool.{false≢true}
-use Rattle.ct_mono.specs.declared.fault.Fault.{Fault}
-use Rattle.ct_mono.specs.declared.fault.Fault.TheVariants.{Overflow, NoMemory}
-use Rattle.ct_mono.specs.Checked.{Checked, ◌>>=◌, Answers}
+use Rattle.ct_checked.specs.declared.fault.Fault.{Fault}
+use Rattle.ct_checked.specs.declared.fault.Fault.TheVariants.{Overflow, NoMemory}
+use Rattle.ct_checked.specs.Checked.{Checked, ◌>>=◌, Answers}
 
 -- where the first step ends, all do
 pub ends_all : {A B : Type 0} (c : Checked A) (f : A → Checked B) (fault : Fault) → Answers c (Err fault) → Answers (c >>= f) (Err fault)

@@ -12,7 +12,7 @@ use Rattle.ct_algebra.specs.Operators.{Operator, polynomial_at, term_of, product
 use Rattle.ct_algebra.proofs.OperatorLawProofs as operator_laws
 use Rattle.ct_algebra.proofs.PolynomialLawProofs as polynomial_laws
 use Rattle.ct_algebra.proofs.ProductRule.{one-product_of, product_of-polynomial}
-use Rattle.ct_mono.specs.Checked.{both_fit}
+use Rattle.ct_checked.specs.Checked.{both_fit}
 use Rattle.ct_ore.specs.Wholes.{whole_operator}
 use Rattle.ct_ore.proofs.WholeLaws.{scaled, scaled_twice}
 use Rattle.ct_expr.specs.ValueArithmetic.{Value, IsValue, checked_times}

@@ -15,7 +15,7 @@ use Rattle.ct_algebra.specs.Operators.{Operator, operator_group, no_operator, su
 use Rattle.ct_algebra.proofs.OperatorTerms.{none_is, sums_are, negatives_are}
 use Rattle.ct_int.specs.Divisors.{greatest_common, least_common}
 use Rattle.ct_int.proofs.CommonDivisors.{greatest_common_is}
-use Rattle.ct_mono.specs.Checked.{Checked, both_fit, verdict_ok}
+use Rattle.ct_checked.specs.Checked.{Checked, both_fit, verdict_ok}
 use Rattle.ct_poly.proofs.WholeLimits.{whole_ok}
 use Rattle.ct_ore.specs.Measures.{checked_sum, checked_difference, checked_product, difference_of_operators}
 use Rattle.ct_ore.specs.Wholes.{common_divisor, over_whole, checked_multiple}

@@ -7,8 +7,8 @@ use Rattle.ct_algebra.specs.Names.{Name}
 use Rattle.ct_algebra.specs.Actions.{Action}
 use Rattle.ct_algebra.specs.Operators.{Operator, no_operator}
 use Rattle.ct_algebra.specs.Substitution.{number}
-use Rattle.ct_mono.specs.Checked.{both_fit}
-use Rattle.ct_mono.specs.Limits.{largest_norm}
+use Rattle.ct_checked.specs.Checked.{both_fit}
+use Rattle.ct_checked.specs.Limits.{largest_norm}
 use Rattle.ct_ore.specs.Measures.{checked_difference}
 use Rattle.ct_ore.specs.Wholes.{DividesOperator}
 use Rattle.ct_ore.proofs.LowestQuotients.{divides_back, nothing_more_divides}

@@ -5,7 +5,7 @@ use Rattle.ct_algebra.specs.Names.{Name}
 use Rattle.ct_algebra.specs.Actions.{Action}
 use Rattle.ct_algebra.specs.Operators.{Operator, no_operator}
 use Rattle.ct_int.specs.Divisors.{greatest_common, least_common}
-use Rattle.ct_mono.specs.Limits.{largest_norm}
+use Rattle.ct_checked.specs.Limits.{largest_norm}
 use Rattle.ct_poly.specs.Wholes.{checked_whole}
 use Rattle.ct_poly.proofs.WholeLimits.{whole_fits}
 use Rattle.ct_ore.specs.Measures.{term_norm, checked_sum, checked_difference, checked_product}

@@ -13,7 +13,7 @@ use Rattle.ct_algebra.specs.Operators.{Operator, operator_of, no_operator, negat
 use Rattle.ct_algebra.proofs.OperatorLawProofs as operator_laws
 use Rattle.ct_algebra.proofs.OperatorTerms.{at-term_of, negatives_are, pick-same, term_of-sum, term_of-zero, term_of_hom}
 use Rattle.ct_algebra.proofs.ProductRule.{multiple-term_of, product_of-polynomial}
-use Rattle.ct_mono.specs.Checked.{Checked, both_fit, verdict_ok}
+use Rattle.ct_checked.specs.Checked.{Checked, both_fit, verdict_ok}
 use Rattle.ct_ore.specs.Measures.{checked_sum, checked_difference, checked_product, difference_of_operators}
 use Rattle.ct_ore.specs.Wholes.{whole_operator, common_divisor, over_whole, entry_over, checked_multiple}
 use Rattle.ct_ore.proofs.OperatorMeasures.{terms-term_of}

@@ -7,7 +7,7 @@ use Rattle.std.proofs.Math.Nat.{div-mul_cancel, pos_of_ne-zero, le-mul_of_pos_ri
 use Rattle.ct_algebra.specs.Operators.{Operator}
 use Rattle.ct_int.specs.Divisors.{least_common}
 use Rattle.ct_int.proofs.CommonMultiples.{LeastCommon, least_common_is}
-use Rattle.ct_mono.specs.Limits.{largest_norm}
+use Rattle.ct_checked.specs.Limits.{largest_norm}
 use Rattle.ct_poly.specs.Wholes.{checked_whole}
 use Rattle.ct_poly.proofs.WholeLimits.{whole_ok}
 use Rattle.ct_ore.specs.Wholes.{DividesOperator, common_divisor, over_whole}

@@ -7,7 +7,7 @@ use Rattle.ct_algebra.specs.Actions.{Action}
 use Rattle.ct_algebra.specs.Polynomial.{polys}
 use Rattle.ct_algebra.specs.Substitution.{number, name}
 use Rattle.ct_algebra.specs.Operators.{no_operator, term_of}
-use Rattle.ct_mono.specs.Checked.{Checked, ◌>>=◌, both_fit}
+use Rattle.ct_checked.specs.Checked.{Checked, ◌>>=◌, both_fit}
 use Rattle.ct_expr.specs.declared.expr.Expr.{Expr, roll-Expr}
 use Rattle.ct_expr.specs.declared.expr.Expr.TheFolds.{fold-Expr, fold-Summand, fold-roll-Expr, fold-roll-Summand, ind-Expr, map-Expr, map-Summand}
 use Rattle.ct_expr.specs.declared.expr.Expr.TheOpen.{Expr-F, Summand-F}

@@ -5,7 +5,7 @@ use Rattle.ct_algebra.specs.Names.{Name}
 use Rattle.ct_algebra.specs.Actions.{Action}
 use Rattle.ct_algebra.specs.Operators.{Operator}
 use Rattle.ct_int.specs.Divisors.{least_common}
-use Rattle.ct_mono.specs.Checked.{Checked, both_fit}
+use Rattle.ct_checked.specs.Checked.{Checked, both_fit}
 use Rattle.ct_poly.specs.Wholes.{checked_whole}
 use Rattle.ct_ore.specs.Measures.{checked_sum, checked_difference, checked_product}
 use Rattle.ct_ore.specs.Wholes.{checked_multiple}

@@ -9,8 +9,8 @@ use Rattle.ct_algebra.specs.Polynomial.{polys}
 use Rattle.ct_algebra.specs.Substitution.{number, name}
 use Rattle.ct_algebra.specs.Actions.{Action}
 use Rattle.ct_algebra.specs.Operators.{term_of}
-use Rattle.ct_mono.specs.Limits.{largest_norm}
-use Rattle.ct_mono.specs.Checked.{◌>>=◌}
+use Rattle.ct_checked.specs.Limits.{largest_norm}
+use Rattle.ct_checked.specs.Checked.{◌>>=◌}
 use Rattle.ct_expr.specs.declared.expr.Expr.{Expr}
 use Rattle.ct_expr.specs.declared.expr.Expr.TheVariants as e
 use Rattle.ct_expr.specs.declared.expr.Expr.TheFolds.{fold-roll-Expr, fold_out-Summand}

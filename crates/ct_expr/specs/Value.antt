@@ -13,8 +13,8 @@ use Rattle.ct_algebra.specs.Polynomial.{Polynomial, polys}
 use Rattle.ct_algebra.specs.Substitution.{number, name}
 use Rattle.ct_algebra.specs.Actions.{Action}
 use Rattle.ct_algebra.specs.Operators.{Operator, no_operator, polynomial_at, term_of}
-use Rattle.ct_mono.specs.Limits.{largest_norm}
-use Rattle.ct_mono.specs.Checked.{Checked, ◌>>=◌}
+use Rattle.ct_checked.specs.Limits.{largest_norm}
+use Rattle.ct_checked.specs.Checked.{Checked, ◌>>=◌}
 use Rattle.ct_expr.specs.ValueArithmetic.{Value, over_one, lowest, negated, checked_plus, checked_minus, checked_times}
 use Rattle.ct_expr.specs.declared.expr.Expr.{Expr}
 use Rattle.ct_expr.specs.declared.expr.Summand.{Summand}

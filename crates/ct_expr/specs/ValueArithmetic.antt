@@ -17,8 +17,8 @@ use Rattle.ct_algebra.specs.Names.{Name}
 use Rattle.ct_algebra.specs.Actions.{Action}
 use Rattle.ct_algebra.specs.Operators.{Operator, operator_code, no_operator}
 use Rattle.ct_int.specs.Divisors.{least_common}
-use Rattle.ct_mono.specs.Limits.{largest_norm}
-use Rattle.ct_mono.specs.Checked.{Checked, ◌>>=◌}
+use Rattle.ct_checked.specs.Limits.{largest_norm}
+use Rattle.ct_checked.specs.Checked.{Checked, ◌>>=◌}
 use Rattle.ct_poly.specs.Wholes.{checked_whole}
 use Rattle.ct_ore.specs.Measures.{checked_sum, checked_difference, checked_product}
 use Rattle.ct_ore.specs.Wholes.{DividesOperator, common_divisor, over_whole, checked_multiple}

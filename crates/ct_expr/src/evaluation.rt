@@ -1,6 +1,6 @@
 // The values of expressions.
 ghost use Rattle.std.specs.Prelude.{◌<◌, IsTrue, Ok};
-ghost use Rattle.ct_mono.specs.Checked.{Answers};
+ghost use Rattle.ct_checked.specs.Checked.{Answers};
 ghost use Rattle.ct_ore.specs.Naming.{actions_of};
 ghost use Rattle.ct_algebra.specs.Names.{name_with, symbol};
 ghost use Rattle.ct_algebra.specs.Operators.{term_of};

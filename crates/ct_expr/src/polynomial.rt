@@ -2,7 +2,7 @@
 ghost use Rattle.std.specs.Prelude.{◌≡◌, IfOk, IsTrue};
 ghost use Rattle.ct_algebra.specs.Monomial.{unit};
 ghost use Rattle.ct_algebra.specs.Operators.{polynomial_at};
-ghost use Rattle.ct_mono.specs.Checked.{Answers};
+ghost use Rattle.ct_checked.specs.Checked.{Answers};
 ghost use Rattle.ct_ore.specs.Naming.{actions_of};
 ghost use Rattle.ct_expr.specs.Value as spec;
 

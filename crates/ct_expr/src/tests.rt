@@ -1,6 +1,6 @@
 // Values over whole numbers: the operators of each step, in lowest terms, and where a step overflows.
 ghost use Rattle.std.specs.Prelude.{◌<◌, ◌≤◌, ◌≤ℤ◌, negsuc};
-ghost use Rattle.ct_mono.specs.Limits.{largest_norm};
+ghost use Rattle.ct_checked.specs.Limits.{largest_norm};
 
 use crate::value::Value;
 use ct_mono::{Fault, Kind, LARGEST_NORM, NoMemory};

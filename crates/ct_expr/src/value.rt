@@ -1,7 +1,7 @@
 // Values of expressions: operators over whole numbers, and their arithmetic.
 ghost use Rattle.std.specs.Prelude.{◌<◌, ◌≤◌, ◌≡◌, IfOk};
-ghost use Rattle.ct_mono.specs.Checked.{Answers};
-ghost use Rattle.ct_mono.specs.Limits.{largest_norm};
+ghost use Rattle.ct_checked.specs.Checked.{Answers};
+ghost use Rattle.ct_checked.specs.Limits.{largest_norm};
 ghost use Rattle.ct_ore.specs.Naming.{actions_of};
 ghost use Rattle.ct_expr.specs.ValueArithmetic.{over_one, lowest, negated, cleared, checked_plus, checked_minus, checked_times};
 

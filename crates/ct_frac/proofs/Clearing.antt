@@ -6,7 +6,7 @@ use Rattle.std.proofs.Math.Nat.{div-mul_cancel}
 use Rattle.ct_algebra.specs.Polynomial.{Polynomial, polys, times, times_assoc}
 use Rattle.ct_algebra.specs.Substitution.{number}
 use Rattle.ct_algebra.specs.Terms.{by_order}
-use Rattle.ct_mono.specs.Checked.{both_fit, verdict_ok}
+use Rattle.ct_checked.specs.Checked.{both_fit, verdict_ok}
 use Rattle.ct_poly.specs.Measures.{checked_times}
 use Rattle.ct_poly.specs.Order.{poly_cmp, poly_tied}
 use Rattle.ct_frac.specs.declared.factor.Factor.{Factor}

@@ -7,7 +7,7 @@ use Rattle.std.specs.Int.{◌∣◌}
 use Rattle.std.proofs.lemmas.Nat.Gcd.{dvd_trans, dvd_refl}
 use Rattle.std.proofs.Math.Nat.{one-dvd}
 use Rattle.ct_algebra.specs.Terms.{by_order}
-use Rattle.ct_mono.specs.Checked.{both_fit}
+use Rattle.ct_checked.specs.Checked.{both_fit}
 use Rattle.ct_poly.specs.Wholes.{checked_whole}
 use Rattle.ct_poly.specs.Order.{poly_cmp, poly_tied}
 use Rattle.ct_frac.specs.declared.factor.Factor.{Factor}

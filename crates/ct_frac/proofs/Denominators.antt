@@ -7,7 +7,7 @@ use Rattle.ct_algebra.specs.Polynomial.{Polynomial, polys, coefficient, times, d
 use Rattle.ct_algebra.specs.Monomial.{unit}
 use Rattle.ct_algebra.specs.Substitution.{number, number_is, number-*}
 use Rattle.ct_algebra.proofs.PolynomialLawProofs.{finite_maps, degrees}
-use Rattle.ct_mono.specs.Limits.{largest_degree}
+use Rattle.ct_checked.specs.Limits.{largest_degree}
 use Rattle.ct_frac.specs.declared.factor.Factor.{Factor}
 use Rattle.ct_frac.specs.Normal.{with_exponent}
 use Rattle.ct_frac.specs.Written.{Denominator, IsBase, IsFactor, IsBelow, AreFactors, IsDenominator, product_of_factors, multiplied_out}

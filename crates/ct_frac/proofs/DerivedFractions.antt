@@ -15,7 +15,7 @@ use Rattle.ct_algebra.specs.Ring.{mul_zero}
 use Rattle.ct_algebra.specs.RingTactic.{ring2, ring4, ring6, ring8, linear1, reify}
 use Rattle.ct_algebra.specs.Substitution.{number}
 use Rattle.ct_algebra.proofs.FieldLawProofs.{fractions}
-use Rattle.ct_mono.specs.Checked.{Checked, both_fit, verdict_ok, ◌>>=◌}
+use Rattle.ct_checked.specs.Checked.{Checked, both_fit, verdict_ok, ◌>>=◌}
 use Rattle.ct_poly.specs.Measures.{checked_minus, checked_times, checked_derived}
 use Rattle.ct_frac.specs.declared.factor.Factor.{Factor}
 use Rattle.ct_frac.specs.Arithmetic.{checked_exponent}

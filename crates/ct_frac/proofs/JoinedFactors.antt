@@ -4,7 +4,7 @@ use Rattle.std.specs.Prelude.{◌≡◌, refl, ◌+◌, max, Ok, List, [], ◌�
 use Rattle.std.proofs.Common.{Ordering, Less, Equal, Greater, sym, ◌∙◌, ap, subst, arith}
 use Rattle.ct_algebra.specs.Polynomial.{Polynomial, times, times_assoc}
 use Rattle.ct_algebra.specs.Terms.{by_order}
-use Rattle.ct_mono.specs.Checked.{Checked, ◌>>=◌, both_fit}
+use Rattle.ct_checked.specs.Checked.{Checked, ◌>>=◌, both_fit}
 use Rattle.ct_poly.specs.Order.{poly_cmp, poly_tied}
 use Rattle.ct_frac.specs.declared.factor.Factor.{Factor}
 use Rattle.ct_frac.specs.Arithmetic.{joined_greatest, all_greatest, checked_exponent, checked_joined, checked_joined_all}

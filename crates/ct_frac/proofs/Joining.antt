@@ -4,7 +4,7 @@ use Rattle.std.specs.Prelude.{◌≡◌, refl, ℕ, zero, suc, ◌+◌, ◌<◌,
 use Rattle.std.proofs.Common.{Ordering, Less, Equal, Greater, ◌∙◌, ap, arith, slice_set, slice_index_or}
 use Rattle.std.specs.List.{insert}
 use Rattle.ct_algebra.specs.Terms.{by_order}
-use Rattle.ct_mono.specs.Checked.{Checked, ◌>>=◌}
+use Rattle.ct_checked.specs.Checked.{Checked, ◌>>=◌}
 use Rattle.ct_poly.specs.Order.{poly_cmp}
 use Rattle.ct_frac.specs.declared.factor.Factor.{Factor}
 use Rattle.ct_frac.specs.declared.insertion.Place.TheVariants.{At, Before}

@@ -9,7 +9,7 @@ use Rattle.ct_algebra.specs.Names.{Name, name_with, symbol, exp-symbol}
 use Rattle.ct_algebra.specs.Polynomial.{Polynomial, polys, times, degree, degree_of}
 use Rattle.ct_algebra.specs.Substitution.{name, name_is, term, term_is, term-*, one_is, number_is}
 use Rattle.ct_algebra.specs.Sums.{single}
-use Rattle.ct_mono.specs.Limits.{largest_degree}
+use Rattle.ct_checked.specs.Limits.{largest_degree}
 use Rattle.ct_poly.specs.Content.{IsContentOf, common_monomial, is_negative, leads_below_zero, least_exp}
 use Rattle.ct_poly.proofs.Contents.{content_only}
 use Rattle.ct_poly.proofs.TermLists.{place-name_with}

@@ -20,7 +20,7 @@ use Rattle.ct_algebra.specs.Ring.{zero_mul, one_mul}
 use Rattle.ct_algebra.specs.Sums.{same_terms, single, none_of, has_none}
 use Rattle.ct_algebra.specs.Terms.{EachTerm, IsCanonical}
 use Rattle.ct_algebra.specs.WholeNumbers.{int_group}
-use Rattle.ct_mono.specs.Limits.{largest_degree, largest_norm}
+use Rattle.ct_checked.specs.Limits.{largest_degree, largest_norm}
 use Rattle.ct_poly.specs.Content.{DividesAll, content, common_monomial, is_negative, leads_below_zero, signed_content, signed, primitive_part}
 use Rattle.ct_poly.proofs.Contents.{content_is}
 use Rattle.ct_poly.proofs.PrimitiveParts.{part_whole, part_primitive}

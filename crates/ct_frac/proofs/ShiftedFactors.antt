@@ -15,7 +15,7 @@ use Rattle.ct_algebra.specs.Names.{Name}
 use Rattle.ct_algebra.specs.Polynomial.{Polynomial, polys, polys_domain, times, degree, degree_of}
 use Rattle.ct_algebra.specs.Substitution.{number, one_is, shift_ring_hom}
 use Rattle.ct_algebra.proofs.FieldLawProofs.{fractions}
-use Rattle.ct_mono.specs.Checked.{both_fit, verdict_ok}
+use Rattle.ct_checked.specs.Checked.{both_fit, verdict_ok}
 use Rattle.ct_poly.specs.Content.{content, is_negative, leads_below_zero, is_below_zero}
 use Rattle.ct_poly.specs.Measures.{checked_shifted, shifted, steps}
 use Rattle.ct_poly.specs.Order.{poly_cmp}

@@ -11,8 +11,8 @@ use Rattle.ct_algebra.specs.Group.{neg_neg, neg_unique}
 use Rattle.ct_algebra.specs.RingTactic.{ring4, ring5, reify}
 use Rattle.ct_algebra.specs.Substitution.{number}
 use Rattle.ct_algebra.specs.Field.{K, field}
-use Rattle.ct_mono.specs.Checked.{Checked, Answers, both_fit, verdict_ok}
-use Rattle.ct_mono.specs.declared.fault.Fault.{Fault}
+use Rattle.ct_checked.specs.Checked.{Checked, Answers, both_fit, verdict_ok}
+use Rattle.ct_checked.specs.declared.fault.Fault.{Fault}
 use Rattle.ct_poly.specs.Measures.{checked_plus, checked_minus, checked_times, minus}
 use Rattle.ct_frac.specs.declared.factor.Factor.{Factor}
 use Rattle.ct_poly.specs.Wholes.{checked_whole}

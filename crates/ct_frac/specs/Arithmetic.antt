@@ -13,9 +13,9 @@ use Rattle.std.specs.Int.{◌∣◌}
 use Rattle.ct_algebra.specs.Polynomial.{Polynomial, polys}
 use Rattle.ct_algebra.specs.Substitution.{number}
 use Rattle.ct_algebra.specs.Terms.{by_order}
-use Rattle.ct_mono.specs.Checked.{Checked, verdict, ◌>>=◌}
-use Rattle.ct_mono.specs.Limits.{largest_degree}
-use Rattle.ct_mono.specs.declared.fault.Kind.TheVariants.{Degree}
+use Rattle.ct_checked.specs.Checked.{Checked, verdict, ◌>>=◌}
+use Rattle.ct_checked.specs.Limits.{largest_degree}
+use Rattle.ct_checked.specs.declared.fault.Kind.TheVariants.{Degree}
 use Rattle.ct_poly.specs.Measures.{checked_plus, checked_minus, checked_times, broken}
 use Rattle.ct_poly.specs.Order.{poly_cmp}
 use Rattle.ct_poly.specs.Wholes.{checked_whole}

@@ -17,7 +17,7 @@ use Rattle.ct_algebra.specs.Substitution.{number}
 use Rattle.ct_algebra.specs.Field.{K}
 use Rattle.ct_algebra.specs.FieldLaws.{embedded}
 use Rattle.ct_algebra.specs.Division.{over}
-use Rattle.ct_mono.specs.Limits.{largest_degree, largest_norm}
+use Rattle.ct_checked.specs.Limits.{largest_degree, largest_norm}
 use Rattle.ct_poly.specs.Content.{content, is_negative}
 use Rattle.ct_poly.specs.Order.{poly_cmp}
 use Rattle.ct_frac.specs.declared.factor.Factor.{Factor}

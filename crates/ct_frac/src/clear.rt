@@ -1,6 +1,6 @@
 // Numerators cleared to a denominator.
 ghost use Rattle.std.specs.Prelude.{◌≡◌};
-ghost use Rattle.ct_mono.specs.Checked.{Answers};
+ghost use Rattle.ct_checked.specs.Checked.{Answers};
 ghost use Rattle.ct_frac.specs.Arithmetic.{checked_often, checked_spread, checked_cleared};
 
 use crate::den::Den;

@@ -1,6 +1,6 @@
 // Common denominators.
 ghost use Rattle.std.specs.Prelude.{◌≡◌, IfOk};
-ghost use Rattle.ct_mono.specs.Checked.{Answers};
+ghost use Rattle.ct_checked.specs.Checked.{Answers};
 ghost use Rattle.ct_frac.specs.Written.{one_den};
 ghost use Rattle.ct_frac.specs.Arithmetic.{joined_greatest, all_greatest, checked_wider, checked_common};
 

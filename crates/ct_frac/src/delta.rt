@@ -6,7 +6,7 @@ ghost use Rattle.ct_algebra.specs.Field.{coefficients};
 ghost use Rattle.ct_algebra.specs.Monomial.{exp};
 ghost use Rattle.ct_algebra.specs.Names.{Name, name_with};
 ghost use Rattle.ct_algebra.specs.Polynomial.{polys};
-ghost use Rattle.ct_mono.specs.Checked.{Answers, AnswersBy};
+ghost use Rattle.ct_checked.specs.Checked.{Answers, AnswersBy};
 ghost use Rattle.ct_poly.specs.Terms.{entries};
 ghost use Rattle.ct_frac.specs.Arithmetic.{checked_exponent};
 ghost use Rattle.ct_frac.specs.Symbols.{has_name, with_name, checked_once, checked_part, checked_without_parts, checked_raised, checked_delta};

@@ -3,7 +3,7 @@ ghost use Rattle.std.specs.Prelude.{◌≡◌, ◌≢◌, ◌↔◌, IfOk, IsTru
 ghost use Rattle.ct_algebra.specs.Field.{field};
 ghost use Rattle.ct_algebra.specs.FieldLaws.{embedded};
 ghost use Rattle.ct_algebra.specs.Polynomial.{polys};
-ghost use Rattle.ct_mono.specs.Checked.{Answers};
+ghost use Rattle.ct_checked.specs.Checked.{Answers};
 ghost use Rattle.ct_frac.specs.Written.{IsWritten, whole_polynomial, multiplied_out, value, value_over, one_den};
 ghost use Rattle.ct_frac.specs.Normal.{normal, quotient_of};
 ghost use Rattle.ct_frac.specs.Arithmetic.{negative, DividesFactors, checked_common, checked_cleared, checked_fraction_sum, checked_fraction_difference, checked_fraction_product, checked_same_value};

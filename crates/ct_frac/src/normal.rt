@@ -1,7 +1,7 @@
 // Fractions brought to their written form.
 ghost use Rattle.std.specs.Prelude.{◌≡◌, ◌≢◌, ◌<◌, ◌≤◌, ◌++◌, IfOk, []};
 ghost use Rattle.ct_algebra.specs.Polynomial.{polys};
-ghost use Rattle.ct_mono.specs.Limits.{largest_norm};
+ghost use Rattle.ct_checked.specs.Limits.{largest_norm};
 ghost use Rattle.ct_frac.specs.Written.{AreFactors, IsWritten};
 ghost use Rattle.ct_frac.specs.Normal.{divided_out, with_exponent, lowered, in_lowest_terms, normal};
 ghost use Rattle.ct_frac.specs.Code.{lowered_of};

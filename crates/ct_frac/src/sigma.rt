@@ -3,7 +3,7 @@ ghost use Rattle.std.specs.Prelude.{◌≡◌, ◌<◌, IfOk, []};
 ghost use Rattle.ct_algebra.specs.Actions.{Action, Shift};
 ghost use Rattle.ct_algebra.specs.Field.{coefficients};
 ghost use Rattle.ct_algebra.specs.Names.{Name, name_with};
-ghost use Rattle.ct_mono.specs.Checked.{Answers, AnswersBy};
+ghost use Rattle.ct_checked.specs.Checked.{Answers, AnswersBy};
 ghost use Rattle.ct_frac.specs.Symbols.{checked_shifted_factors, checked_sigma};
 ghost use Rattle.ct_frac.specs.Written.{value};
 

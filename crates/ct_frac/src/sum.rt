@@ -1,7 +1,7 @@
 // Sums, differences and products of written fractions.
 ghost use Rattle.std.specs.Prelude.{◌≡◌, ◌+◌, [], ◌∷◌};
 ghost use Rattle.ct_algebra.specs.Polynomial.{polys};
-ghost use Rattle.ct_mono.specs.Checked.{Answers, AnswersBy};
+ghost use Rattle.ct_checked.specs.Checked.{Answers, AnswersBy};
 ghost use Rattle.ct_frac.specs.Arithmetic.{checked_fraction_sum, checked_fraction_difference, checked_exponent, checked_joined, checked_joined_all, checked_fraction_product, checked_full_product, checked_same_value, checked_common};
 ghost use Rattle.ct_frac.specs.Written.{one_den};
 

@@ -2,7 +2,7 @@
 ghost use Rattle.std.specs.Prelude.{◌≡◌, ◌≤◌, IfOk, pos};
 ghost use Rattle.std.specs.Int.{◌∣◌};
 ghost use Rattle.ct_algebra.specs.Monomial.{unit};
-ghost use Rattle.ct_mono.specs.Limits.{largest_norm};
+ghost use Rattle.ct_checked.specs.Limits.{largest_norm};
 ghost use Rattle.ct_poly.specs.Content.{content, divided};
 
 use ct_poly::{NoMemory, Poly};

@@ -1,6 +1,3 @@
-pub mod Limits
-pub mod Checked
-pub mod Loop
 pub mod Equal
 pub mod Division
 pub mod Listing

@@ -2,7 +2,7 @@
 ghost use Rattle.std.specs.Prelude.{◌≡◌, ◌+◌, ◌<◌, ◌≤◌, ◌++◌, map, IfOk, OnOk};
 ghost use Rattle.std.specs.List.{All, AllPairs};
 ghost use Rattle.ct_algebra.specs.Monomial.{total, ◌·◌};
-ghost use Rattle.ct_mono.specs.Limits.{largest_degree};
+ghost use Rattle.ct_checked.specs.Limits.{largest_degree};
 ghost use Rattle.ct_mono.specs.Listing.{IsListing, of_total, up_to};
 
 use crate::monomial::Monomial;

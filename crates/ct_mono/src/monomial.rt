@@ -3,10 +3,10 @@ ghost use Rattle.std.specs.Prelude.{◌≡◌, ◌+◌, ◌<◌, ◌≤◌, Matc
 ghost use Rattle.ct_algebra.specs.Monomial.{exp, unit, total, ◌·◌, mono_cmp};
 ghost use Rattle.ct_algebra.specs.Names.{name_with, symbol};
 ghost use Rattle.ct_mono.specs.Division.{Divides, over};
-ghost use Rattle.ct_mono.specs.Limits.{largest_degree};
+ghost use Rattle.ct_checked.specs.Limits.{largest_degree};
 ghost use Rattle.ct_mono.specs.Exponents.{with_exponent};
 
-use crate::limits::LARGEST_DEGREE;
+use ct_checked::LARGEST_DEGREE;
 use std::cmp::Ordering;
 use std::marker::Model;
 
@@ -19,7 +19,7 @@ pub struct Monomial {
 impl Model for Monomial {
     ghost use Rattle.std.specs.Prelude.{◌≡◌, ◌≤◌, sum, length};
     ghost use Rattle.ct_algebra.specs.Monomial.{Mono, mono_code, mono_of, exps-mono_of};
-    ghost use Rattle.ct_mono.specs.Limits.{largest_degree};
+    ghost use Rattle.ct_checked.specs.Limits.{largest_degree};
 
     ghost Value = { Mono };
 

@@ -6,7 +6,7 @@ use Rattle.ct_algebra.specs.Monomial.{Mono, monomials, mono_cmp, mono_tied}
 use Rattle.ct_algebra.specs.Polynomial.{Polynomial, polys, plus, count, norm}
 use Rattle.ct_algebra.specs.Terms.{keep, merged}
 use Rattle.ct_algebra.proofs.Merging as merging
-use Rattle.ct_mono.specs.Limits.{most_terms, largest_norm}
+use Rattle.ct_checked.specs.Limits.{most_terms, largest_norm}
 use Rattle.ct_poly.specs.Measures.{sum_overflow}
 use Rattle.ct_poly.proofs.OverflowRules.{sum_fits}
 use Rattle.ct_ore.specs.declared.op.OpTerm.{OpTerm}

@@ -4,7 +4,7 @@ use Rattle.std.proofs.Common.{◌≡◌, List, [], ◌∷◌, Ok, sym, ◌∙◌
 use Rattle.ct_algebra.specs.Names.{Name}
 use Rattle.ct_algebra.specs.Actions.{Action}
 use Rattle.ct_algebra.specs.Operators.{Operator, operator_group, no_operator, sum_of_operators, product_of, combination}
-use Rattle.ct_mono.specs.Checked.{verdict_ok, both_fit, ◌>>=◌}
+use Rattle.ct_checked.specs.Checked.{verdict_ok, both_fit, ◌>>=◌}
 use Rattle.ct_ore.specs.MeasureLaws.{CheckedValuesAreExact}
 use Rattle.ct_ore.specs.Measures.{checked_sum, checked_difference, checked_product, checked_combination}
 

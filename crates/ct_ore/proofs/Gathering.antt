@@ -10,7 +10,7 @@ use Rattle.ct_algebra.specs.Polynomial.{Polynomial, polys}
 use Rattle.ct_algebra.specs.Sums.{has_none, same_terms}
 use Rattle.ct_algebra.specs.WholeNumbers.{int_group}
 use Rattle.ct_algebra.proofs.Merging.{back_canonical}
-use Rattle.ct_mono.specs.Limits.{most_terms, largest_norm}
+use Rattle.ct_checked.specs.Limits.{most_terms, largest_norm}
 use Rattle.ct_poly.specs.declared.term.Term.{Term}
 use Rattle.ct_poly.specs.Terms as poly
 use Rattle.ct_poly.specs.Terms.{entries, IsFalling}

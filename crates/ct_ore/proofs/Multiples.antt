@@ -15,7 +15,7 @@ use Rattle.ct_algebra.specs.Polynomial.{norm_of}
 use Rattle.ct_algebra.specs.Operators.{Operator, operator_group}
 use Rattle.ct_algebra.proofs.Merging.{front_canonical, back_canonical}
 use Rattle.ct_algebra.proofs.OperatorTerms.{sums_are}
-use Rattle.ct_mono.specs.Limits.{largest_degree, largest_norm}
+use Rattle.ct_checked.specs.Limits.{largest_degree, largest_norm}
 use Rattle.ct_ore.specs.declared.coefficient_term.CoefficientTerm.{CoefficientTerm}
 use Rattle.ct_ore.specs.CoefficientTerms.{by_parts, pair_cmp, pair_cmp_is, keyed, size_of, sum_of_parts, IsWritten}
 use Rattle.ct_ore.specs.PairTerms.{times_term, multiplied, multiplied_by}

@@ -13,8 +13,8 @@ use Rattle.ct_algebra.specs.Polynomial.{Polynomial, polys, plus, plus_is, count,
 use Rattle.ct_algebra.specs.WholeNumbers.{int_group}
 use Rattle.ct_algebra.specs.Operators.{Operator, operator_of, sum_of_operators, negative}
 use Rattle.ct_algebra.proofs.PolynomialLawProofs.{degrees, finite_maps}
-use Rattle.ct_mono.specs.Limits.{most_terms, largest_norm}
-use Rattle.ct_mono.specs.declared.fault.Kind.TheVariants.{Terms, Number}
+use Rattle.ct_checked.specs.Limits.{most_terms, largest_norm}
+use Rattle.ct_checked.specs.declared.fault.Kind.TheVariants.{Terms, Number}
 use Rattle.ct_poly.specs.Measures.{broken}
 use Rattle.ct_poly.proofs.OverflowRules.{is_broken, is_kept}
 use Rattle.ct_poly.proofs.Within.{sums_within, negatives_within as neg_within}

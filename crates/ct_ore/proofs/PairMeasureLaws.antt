@@ -9,9 +9,9 @@ use Rattle.ct_algebra.specs.Names.{Name, x0, x1, x2, x3, x4, x5, place, name_wit
 use Rattle.ct_algebra.specs.Actions.{Action, Still}
 use Rattle.ct_algebra.specs.Polynomial.{Polynomial, degree}
 use Rattle.ct_algebra.specs.Operators.{Operator}
-use Rattle.ct_mono.specs.Limits.{largest_degree, most_terms, largest_norm}
-use Rattle.ct_mono.specs.declared.fault.Kind.{Kind}
-use Rattle.ct_mono.specs.declared.fault.Kind.TheVariants.{Degree, Terms, Number}
+use Rattle.ct_checked.specs.Limits.{largest_degree, most_terms, largest_norm}
+use Rattle.ct_checked.specs.declared.fault.Kind.{Kind}
+use Rattle.ct_checked.specs.declared.fault.Kind.TheVariants.{Degree, Terms, Number}
 use Rattle.ct_poly.specs.Measures.{broken}
 use Rattle.ct_ore.specs.declared.coefficient_term.CoefficientTerm.{CoefficientTerm}
 use Rattle.ct_ore.specs.Naming.{Naming, actions_of}

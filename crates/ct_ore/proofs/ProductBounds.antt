@@ -8,7 +8,7 @@ use Rattle.ct_algebra.specs.Names.{Name, x0, x1, x2, x3, x4, x5}
 use Rattle.ct_algebra.specs.Terms.{EachTerm, EachTerm-weaker}
 use Rattle.ct_algebra.specs.Actions.{Action, Shift, Derive, Still}
 use Rattle.ct_algebra.specs.Polynomial.{Polynomial, degree_greatest, norm, norm_of}
-use Rattle.ct_mono.specs.Limits.{largest_degree, largest_norm}
+use Rattle.ct_checked.specs.Limits.{largest_degree, largest_norm}
 use Rattle.ct_mono.proofs.ExponentLaws.{total-with_exponent}
 use Rattle.ct_ore.specs.declared.coefficient_term.CoefficientTerm.{CoefficientTerm}
 use Rattle.ct_ore.specs.CoefficientTerms.{size_of}

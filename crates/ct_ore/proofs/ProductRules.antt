@@ -14,9 +14,9 @@ use Rattle.ct_algebra.specs.Polynomial.{Polynomial, polys, degree, degree_greate
 use Rattle.ct_algebra.specs.Operators.{Operator, operator_group, no_operator, product_of, product_of-sum, sum_of_operators}
 use Rattle.ct_algebra.proofs.OperatorTerms.{sums_are, none_is}
 use Rattle.ct_algebra.proofs.AppliedOperators.{no_operator-product_of}
-use Rattle.ct_mono.specs.Checked.{verdict}
-use Rattle.ct_mono.specs.Limits.{largest_degree}
-use Rattle.ct_mono.specs.declared.fault.Kind.{Kind}
+use Rattle.ct_checked.specs.Checked.{verdict}
+use Rattle.ct_checked.specs.Limits.{largest_degree}
+use Rattle.ct_checked.specs.declared.fault.Kind.{Kind}
 use Rattle.ct_poly.specs.Measures.{broken}
 use Rattle.ct_ore.specs.declared.coefficient_term.CoefficientTerm.{CoefficientTerm}
 use Rattle.ct_ore.specs.CoefficientTerms.{sum_of_parts, size_of, row_of, all_terms, coefficient_terms}

@@ -10,7 +10,7 @@ use Rattle.ct_algebra.specs.Monomial.{total}
 use Rattle.ct_algebra.specs.WholeNumbers.{int_group, int_is_zero}
 use Rattle.ct_algebra.specs.Operators.{sum_of_operators}
 use Rattle.ct_algebra.proofs.Merging.{behind}
-use Rattle.ct_mono.specs.Limits.{largest_norm}
+use Rattle.ct_checked.specs.Limits.{largest_norm}
 use Rattle.ct_ore.specs.declared.coefficient_term.CoefficientTerm.{CoefficientTerm}
 use Rattle.ct_ore.specs.CoefficientTerms.{by_parts, pair_cmp, key, keyed, size_of, sum_of_parts, IsWritten}
 use Rattle.ct_ore.specs.PairMeasures.{HasNumbers}

@@ -13,7 +13,7 @@ use Rattle.ct_algebra.specs.Terms.{AllBelow, IsCanonical}
 use Rattle.ct_algebra.specs.WholeNumbers.{int_group}
 use Rattle.ct_algebra.specs.Operators.{Operator, operator_of}
 use Rattle.ct_algebra.proofs.OperatorLawProofs as operator_laws
-use Rattle.ct_mono.specs.Limits.{most_terms, largest_norm}
+use Rattle.ct_checked.specs.Limits.{most_terms, largest_norm}
 use Rattle.ct_poly.specs.Content.{DividesAll, DividesEach, IsContentOf, content, divided}
 use Rattle.ct_poly.proofs.Contents.{content_is, greatest_within, some_content}
 use Rattle.ct_poly.proofs.DividedTerms.{quotients, divided_terms, length-quotients, size-quotients}

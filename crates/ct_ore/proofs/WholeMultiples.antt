@@ -9,10 +9,10 @@ use Rattle.ct_algebra.specs.Substitution.{number, number_is, one_is}
 use Rattle.ct_algebra.specs.WholeNumbers.{int_is_zero}
 use Rattle.ct_algebra.specs.Operators.{Operator, term_of, product_of}
 use Rattle.ct_algebra.proofs.ProductRule.{one-product_of}
-use Rattle.ct_mono.specs.Checked.{verdict}
-use Rattle.ct_mono.specs.Limits.{largest_degree, most_terms, largest_norm}
-use Rattle.ct_mono.specs.declared.fault.Kind.{Kind}
-use Rattle.ct_mono.specs.declared.fault.Kind.TheVariants.{Number}
+use Rattle.ct_checked.specs.Checked.{verdict}
+use Rattle.ct_checked.specs.Limits.{largest_degree, most_terms, largest_norm}
+use Rattle.ct_checked.specs.declared.fault.Kind.{Kind}
+use Rattle.ct_checked.specs.declared.fault.Kind.TheVariants.{Number}
 use Rattle.ct_poly.specs.Measures.{broken}
 use Rattle.ct_ore.specs.CoefficientTerms.{all_terms, coefficient_terms}
 use Rattle.ct_ore.specs.Measures.{term_count, term_norm, coefficient_degree, order_of, product_count, product_norm, product_overflow, checked_product}

@@ -13,7 +13,7 @@ use Rattle.ct_algebra.specs.Terms.{EachTerm, IsCanonical}
 use Rattle.ct_algebra.specs.Polynomial.{Polynomial, degree, norm, norm_of}
 use Rattle.ct_algebra.specs.WholeNumbers.{int_group}
 use Rattle.ct_algebra.specs.Actions.{Action}
-use Rattle.ct_mono.specs.Limits.{largest_degree, largest_norm}
+use Rattle.ct_checked.specs.Limits.{largest_degree, largest_norm}
 use Rattle.ct_ore.specs.declared.coefficient_term.CoefficientTerm.{CoefficientTerm}
 use Rattle.ct_ore.specs.CoefficientTerms.{size_of, IsWritten}
 use Rattle.ct_ore.specs.PairTerms.{raised, expanded, product_terms}

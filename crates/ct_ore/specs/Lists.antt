@@ -14,7 +14,7 @@ use Rattle.ct_algebra.specs.Operators.{Operator}
 use Rattle.ct_algebra.specs.Polynomial.{Polynomial}
 use Rattle.ct_algebra.specs.WholeNumbers.{int_group}
 use Rattle.ct_algebra.proofs.Merging as merging
-use Rattle.ct_mono.specs.Limits.{most_terms, largest_norm}
+use Rattle.ct_checked.specs.Limits.{most_terms, largest_norm}
 use Rattle.ct_poly.specs.declared.term.Term.{Term}
 use Rattle.ct_poly.specs.Terms.{entries}
 use Rattle.ct_ore.specs.declared.coefficient_term.CoefficientTerm.{CoefficientTerm}

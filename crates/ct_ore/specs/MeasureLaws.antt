@@ -10,7 +10,7 @@ use Rattle.std.specs.Prelude.{◌≡◌, ◌≢◌, ◌↔◌, ◌+◌, ◌≤�
 use Rattle.ct_algebra.specs.Names.{Name}
 use Rattle.ct_algebra.specs.Actions.{Action}
 use Rattle.ct_algebra.specs.Operators.{Operator, no_operator, sum_of_operators, product_of, combination}
-use Rattle.ct_mono.specs.Limits.{largest_degree, most_terms, largest_norm}
+use Rattle.ct_checked.specs.Limits.{largest_degree, most_terms, largest_norm}
 use Rattle.ct_ore.specs.Measures.{term_count, term_norm, coefficient_degree, order_of, difference_of_operators, sum_overflow, checked_sum, checked_difference, product_count, product_norm, product_overflow, checked_product, checked_combination}
 
 -- ---- where the rules are kept

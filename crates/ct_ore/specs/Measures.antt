@@ -14,10 +14,10 @@ use Rattle.ct_algebra.specs.Names.{Name, place}
 use Rattle.ct_algebra.specs.Polynomial.{count, norm, degree}
 use Rattle.ct_algebra.specs.Actions.{Action}
 use Rattle.ct_algebra.specs.Operators.{Operator, sum_of_operators, negative, product_of}
-use Rattle.ct_mono.specs.Limits.{largest_degree, most_terms, largest_norm}
-use Rattle.ct_mono.specs.Checked.{Checked, verdict, ◌>>=◌}
-use Rattle.ct_mono.specs.declared.fault.Kind.{Kind}
-use Rattle.ct_mono.specs.declared.fault.Kind.TheVariants.{Degree, Terms, Number}
+use Rattle.ct_checked.specs.Limits.{largest_degree, most_terms, largest_norm}
+use Rattle.ct_checked.specs.Checked.{Checked, verdict, ◌>>=◌}
+use Rattle.ct_checked.specs.declared.fault.Kind.{Kind}
+use Rattle.ct_checked.specs.declared.fault.Kind.TheVariants.{Degree, Terms, Number}
 use Rattle.ct_poly.specs.Measures.{broken}
 use Rattle.ct_ore.specs.PairWeights.{over_names, pair_count, pair_weight}
 

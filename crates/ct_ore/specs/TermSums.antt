@@ -6,7 +6,7 @@ use Rattle.std.specs.Prelude.{ℕ, ◌+◌, ◌≤◌, List, map, sum_by}
 use Rattle.ct_algebra.specs.Monomial.{Mono, monomials}
 use Rattle.ct_algebra.specs.Polynomial.{Polynomial, polys, count, norm}
 use Rattle.ct_algebra.specs.Terms.{IsCanonical}
-use Rattle.ct_mono.specs.Limits.{most_terms, largest_norm}
+use Rattle.ct_checked.specs.Limits.{most_terms, largest_norm}
 
 abbrev pub entries_count : List (Mono × Polynomial) → ℕ
 entries_count es = sum_by (λ e. count e.1) es

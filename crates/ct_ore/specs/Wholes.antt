@@ -15,9 +15,9 @@ use Rattle.ct_algebra.specs.Substitution.{number}
 use Rattle.ct_algebra.specs.Terms.{EachTerm}
 use Rattle.ct_algebra.specs.Actions.{Action}
 use Rattle.ct_algebra.specs.Operators.{Operator, operator_of, term_of, product_of}
-use Rattle.ct_mono.specs.Limits.{largest_norm}
-use Rattle.ct_mono.specs.Checked.{Checked, verdict}
-use Rattle.ct_mono.specs.declared.fault.Kind.TheVariants.{Number}
+use Rattle.ct_checked.specs.Limits.{largest_norm}
+use Rattle.ct_checked.specs.Checked.{Checked, verdict}
+use Rattle.ct_checked.specs.declared.fault.Kind.TheVariants.{Number}
 use Rattle.ct_poly.specs.Content.{DividesEach, greatest_up_to, divided}
 use Rattle.ct_poly.specs.Measures.{broken}
 use Rattle.ct_ore.specs.Measures.{term_norm}

@@ -1,6 +1,6 @@
 // Operators as lists of coefficient terms, and back.
 ghost use Rattle.std.specs.Prelude.{◌≡◌, ◌≤◌, ◌++◌, IfOk, length, map, take};
-ghost use Rattle.ct_mono.specs.Limits.{most_terms, largest_norm};
+ghost use Rattle.ct_checked.specs.Limits.{most_terms, largest_norm};
 ghost use Rattle.ct_poly.specs.Terms.{entries};
 ghost use Rattle.ct_ore.specs.Terms.{op_entries};
 ghost use Rattle.ct_ore.specs.CoefficientTerms.{sum_of_parts, IsWritten, row_of, all_terms};

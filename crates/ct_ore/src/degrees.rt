@@ -2,7 +2,7 @@
 ghost use Rattle.std.specs.Prelude.{◌≡◌, ◌<◌, ◌≤◌, map};
 ghost use Rattle.ct_algebra.specs.Monomial.{exp, total};
 ghost use Rattle.ct_algebra.specs.Polynomial.{degree};
-ghost use Rattle.ct_mono.specs.Limits.{largest_degree};
+ghost use Rattle.ct_checked.specs.Limits.{largest_degree};
 ghost use Rattle.ct_ore.specs.Terms.{op_entries};
 ghost use Rattle.ct_ore.specs.Measures.{greatest};
 

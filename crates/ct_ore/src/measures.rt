@@ -3,7 +3,7 @@ ghost use Rattle.std.specs.Prelude.{◌≡◌, ◌*◌, ◌<◌, ◌≤◌, ℕ,
 ghost use Rattle.ct_algebra.specs.Monomial.{exp};
 ghost use Rattle.ct_algebra.specs.Names.{name_with};
 ghost use Rattle.ct_algebra.specs.Operators.{Operator};
-ghost use Rattle.ct_mono.specs.Limits.{most_terms, largest_norm};
+ghost use Rattle.ct_checked.specs.Limits.{most_terms, largest_norm};
 ghost use Rattle.ct_ore.specs.Naming.{actions_of};
 ghost use Rattle.ct_ore.specs.Terms.{op_entries};
 ghost use Rattle.ct_ore.specs.CoefficientTerms.{size_of, all_terms};

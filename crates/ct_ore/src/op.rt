@@ -4,8 +4,8 @@ ghost use Rattle.ct_algebra.specs.Names.{name_with, symbol};
 ghost use Rattle.ct_algebra.specs.Monomial.{unit};
 ghost use Rattle.ct_algebra.specs.Polynomial.{polys};
 ghost use Rattle.ct_algebra.specs.Operators.{no_operator, term_of};
-ghost use Rattle.ct_mono.specs.Checked.{Answers};
-ghost use Rattle.ct_mono.specs.Limits.{most_terms, largest_norm};
+ghost use Rattle.ct_checked.specs.Checked.{Answers};
+ghost use Rattle.ct_checked.specs.Limits.{most_terms, largest_norm};
 ghost use Rattle.ct_ore.specs.Terms.{op_entries, operator_of_terms, IsOperator};
 ghost use Rattle.ct_ore.specs.CoefficientTerms.{sum_of_parts};
 ghost use Rattle.ct_ore.specs.Lists.{Fits, IsPartsOf};
@@ -40,7 +40,7 @@ pub struct Op {
 impl Model for Op {
     ghost use Rattle.std.specs.Prelude.{◌≤◌};
     ghost use Rattle.ct_algebra.specs.Operators.{Operator, operator_code};
-    ghost use Rattle.ct_mono.specs.Limits.{most_terms, largest_norm};
+    ghost use Rattle.ct_checked.specs.Limits.{most_terms, largest_norm};
     ghost use Rattle.ct_ore.specs.Terms.{operator_of_terms, IsOperator};
     ghost use Rattle.ct_ore.specs.Measures.{term_count, term_norm};
 

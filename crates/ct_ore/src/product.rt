@@ -2,7 +2,7 @@
 ghost use Rattle.std.specs.Prelude.{◌≡◌, ◌<◌, ◌≤◌, ◌*◌, ◌++◌, ◌∷◌, [], ◌*ℤ◌, pos, IfOk, unsigned_abs};
 ghost use Rattle.ct_algebra.specs.Monomial.{exp};
 ghost use Rattle.ct_algebra.specs.Names.{name_with};
-ghost use Rattle.ct_mono.specs.Limits.{largest_norm};
+ghost use Rattle.ct_checked.specs.Limits.{largest_norm};
 ghost use Rattle.ct_ore.specs.Naming.{actions_of, action_of};
 ghost use Rattle.ct_ore.specs.Terms.{op_entries};
 ghost use Rattle.ct_ore.specs.PairTerms.{raised_term, raised, expanded, product_terms};

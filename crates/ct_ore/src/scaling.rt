@@ -1,7 +1,7 @@
 // A polynomial's terms times the terms of a list.
 ghost use Rattle.std.specs.Prelude.{◌≡◌, ◌+◌, ◌*◌, ◌≤◌, ◌∷◌, [], ◌*ℤ◌, IfOk, nat_abs, unsigned_abs};
 ghost use Rattle.ct_algebra.specs.Monomial.{total};
-ghost use Rattle.ct_mono.specs.Limits.{largest_degree, largest_norm};
+ghost use Rattle.ct_checked.specs.Limits.{largest_degree, largest_norm};
 ghost use Rattle.ct_poly.specs.Terms.{entries};
 ghost use Rattle.ct_ore.specs.PairTerms.{times_term, multiplied, multiplied_by};
 ghost use Rattle.ct_ore.specs.Bounds.{CanScale};

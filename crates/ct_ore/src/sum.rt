@@ -1,6 +1,6 @@
 // Sums of lists of coefficient terms in written form.
 ghost use Rattle.std.specs.Prelude.{◌≡◌, ◌+◌, ◌<◌, ◌≤◌, ◌+ℤ◌, IfOk, unsigned_abs, length, take};
-ghost use Rattle.ct_mono.specs.Limits.{largest_norm};
+ghost use Rattle.ct_checked.specs.Limits.{largest_norm};
 ghost use Rattle.ct_ore.specs.CoefficientTerms.{key, pair_cmp, size_of, IsWritten};
 ghost use Rattle.ct_ore.specs.PairMeasures.{HasNumbers};
 ghost use Rattle.ct_ore.specs.Lists.{CanMerge, AllBefore, IsBefore, IsMerged, IsFront, IsSorted};

@@ -1,6 +1,6 @@
 // How many terms the symbols of a name make of a power of the name, and which numbers stand before them.
 ghost use Rattle.std.specs.Prelude.{◌≡◌, ◌+◌, ◌*◌, ◌^◌, ◌<◌, ◌≤◌, ℕ, eqb};
-ghost use Rattle.ct_mono.specs.Limits.{largest_degree, largest_norm};
+ghost use Rattle.ct_checked.specs.Limits.{largest_degree, largest_norm};
 ghost use Rattle.ct_ore.specs.Naming.{action_of};
 ghost use Rattle.ct_ore.specs.PairTerms.{how_many, ways, symbols_left};
 ghost use Rattle.ct_ore.specs.PairWeights.{derivation_weight};

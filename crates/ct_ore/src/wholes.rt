@@ -1,7 +1,7 @@
 // Operators and whole numbers: common divisors, quotients and multiples.
 ghost use Rattle.std.specs.Prelude.{◌≡◌, ◌<◌, ◌≤◌, IfOk, map};
-ghost use Rattle.ct_mono.specs.Checked.{Answers};
-ghost use Rattle.ct_mono.specs.Limits.{largest_norm};
+ghost use Rattle.ct_checked.specs.Checked.{Answers};
+ghost use Rattle.ct_checked.specs.Limits.{largest_norm};
 ghost use Rattle.ct_ore.specs.Naming.{actions_of};
 ghost use Rattle.ct_ore.specs.Terms.{op_entries};
 ghost use Rattle.ct_ore.specs.Wholes.{DividesTerms, DividesOperator, IsCommonDivisor, common_divisor, entry_over, over_whole, checked_multiple};

@@ -4,7 +4,7 @@ use Rattle.std.proofs.Common.{rules, arith, ◌≡◌, ℕ, ℤ, pos, suc, ◌+�
 use Rattle.std.proofs.lemmas.List.Sums.{sum_by-set, sum_by-cons, get_or-le-sum_by}
 use Rattle.std.proofs.Math.Seq.{lt-length-set}
 use Rattle.std.proofs.lemmas.Int.{unsigned_abs-mul, ints}
-use Rattle.ct_mono.specs.Limits.{largest_norm}
+use Rattle.ct_checked.specs.Limits.{largest_norm}
 use Rattle.ct_poly.specs.Cells.{added, size_of_cells, size_of_spots}
 use Rattle.ct_poly.specs.declared.cells.Spot.{Spot}
 

@@ -2,7 +2,7 @@
 -- The measures of its terms, gathered, are at most those of the terms as they were found.
 use Rattle.std.proofs.Common.{◌≡◌, refl, ◌*◌, ◌≤◌, List, [], ◌∷◌, length, Ok, Some, sym, ◌∙◌, ap, arith, mul-le-mul_right}
 use Rattle.ct_algebra.specs.Polynomial.{Polynomial, times, count, norm}
-use Rattle.ct_mono.specs.Limits.{most_terms}
+use Rattle.ct_checked.specs.Limits.{most_terms}
 use Rattle.ct_poly.specs.declared.term.Term.{Term}
 use Rattle.ct_poly.specs.Cells.{IsQuotient}
 use Rattle.ct_poly.specs.Division.{checked_quotient}

@@ -14,7 +14,7 @@ use Rattle.ct_algebra.specs.Substitution.{term, number_is, one_is}
 use Rattle.ct_algebra.specs.Terms.{EachTerm-weaker}
 use Rattle.ct_int.proofs.OperationLaws.{abs-neg}
 use Rattle.ct_mono.specs.Division.{Divides}
-use Rattle.ct_mono.specs.Limits.{most_terms, largest_norm}
+use Rattle.ct_checked.specs.Limits.{most_terms, largest_norm}
 use Rattle.ct_poly.specs.declared.cells.Spot.{Spot}
 use Rattle.ct_poly.specs.declared.division.Measure.{Measure}
 use Rattle.ct_poly.specs.declared.term.Term.{Term}

@@ -12,7 +12,7 @@ use Rattle.ct_algebra.specs.WholeNumbers.{int_group, int_ring, int_is_zero}
 use Rattle.ct_algebra.specs.Substitution.{term}
 use Rattle.ct_algebra.specs.Polynomial.{Polynomial, poly_of, times, norm_of, terms-poly_of}
 use Rattle.ct_algebra.proofs.TermLists.{row_of, poly_of-row}
-use Rattle.ct_mono.specs.Limits.{largest_norm}
+use Rattle.ct_checked.specs.Limits.{largest_norm}
 use Rattle.ct_poly.specs.declared.term.Term.{Term}
 use Rattle.ct_poly.specs.Terms.{entries, entry, size_of, IsFalling, IsListOf, poly_of_terms}
 use Rattle.ct_poly.specs.Content.{TermDivides, term_divided, divided}

@@ -13,10 +13,10 @@ use Rattle.ct_algebra.specs.RingTactic.{ring3, reify}
 use Rattle.ct_algebra.specs.Sums.{has_none, none_of}
 use Rattle.ct_algebra.specs.Terms.{IsCanonical}
 use Rattle.ct_algebra.specs.WholeNumbers.{int_group}
-use Rattle.ct_mono.specs.Checked.{Checked, both_fit, Answers}
-use Rattle.ct_mono.specs.declared.fault.Fault.{Fault}
+use Rattle.ct_checked.specs.Checked.{Checked, both_fit, Answers}
+use Rattle.ct_checked.specs.declared.fault.Fault.{Fault}
 use Rattle.ct_mono.specs.Division.{over-·}
-use Rattle.ct_mono.specs.Loop.{run, run_keeps}
+use Rattle.ct_checked.specs.Loop.{run, run_keeps}
 use Rattle.ct_poly.specs.Division.{Dividing, both_over, leading_over, next_term, checked_step, dividing_rank, whole_dividend, found_quotient, checked_quotient, value_or_none, quotient}
 use Rattle.ct_poly.proofs.DivisionSteps.{IsWhole, whole_kept, division_falls}
 use Rattle.ct_poly.proofs.ProductLeads.{product_leads}

@@ -8,7 +8,7 @@ use Rattle.ct_algebra.specs.Monomial.{total, total-·, ◌·◌}
 use Rattle.ct_algebra.specs.Polynomial.{polys, plus, times}
 use Rattle.ct_algebra.specs.Substitution.{term}
 use Rattle.ct_int.proofs.OperationLaws.{abs-neg}
-use Rattle.ct_mono.specs.Limits.{largest_degree, largest_norm}
+use Rattle.ct_checked.specs.Limits.{largest_degree, largest_norm}
 use Rattle.ct_poly.specs.declared.term.Term.{Term}
 use Rattle.ct_poly.specs.Division.{Dividing, leading_over, step_of}
 use Rattle.ct_poly.specs.Measures.{minus}

@@ -11,11 +11,11 @@ use Rattle.ct_algebra.specs.Substitution.{term}
 use Rattle.ct_algebra.specs.Sums.{has_none}
 use Rattle.ct_algebra.specs.Terms.{AllBelow, IsCanonical, EachTerm, EachTerm-weaker, is_less}
 use Rattle.ct_algebra.specs.WholeNumbers.{int_group, int_is_zero}
-use Rattle.ct_mono.specs.Checked.{Checked, ◌>>=◌, verdict_fits, verdict_refuses}
-use Rattle.ct_mono.specs.Limits.{most_terms, largest_norm}
-use Rattle.ct_mono.specs.Loop.{run, run_step, run_done}
-use Rattle.ct_mono.specs.declared.fault.Kind.{Kind}
-use Rattle.ct_mono.specs.declared.fault.Kind.TheVariants.{Terms, Number}
+use Rattle.ct_checked.specs.Checked.{Checked, ◌>>=◌, verdict_fits, verdict_refuses}
+use Rattle.ct_checked.specs.Limits.{most_terms, largest_norm}
+use Rattle.ct_checked.specs.Loop.{run, run_step, run_done}
+use Rattle.ct_checked.specs.declared.fault.Kind.{Kind}
+use Rattle.ct_checked.specs.declared.fault.Kind.TheVariants.{Terms, Number}
 use Rattle.ct_poly.specs.declared.term.Term.{Term}
 use Rattle.ct_poly.specs.declared.division.Measure.{Measure}
 use Rattle.ct_poly.specs.Division.{Dividing, leading_over, next_term, step_rules, step_overflow, step_of, checked_step, leading_rank, dividing_rank, found_quotient, checked_quotient}

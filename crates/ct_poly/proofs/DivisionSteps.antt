@@ -14,9 +14,9 @@ use Rattle.ct_algebra.specs.Terms.{IsCanonical}
 use Rattle.ct_algebra.specs.WholeNumbers.{int_group, int_is_zero}
 use Rattle.ct_algebra.proofs.TermLists.{row_of}
 use Rattle.ct_algebra.proofs.TermProducts.{sum_of-append}
-use Rattle.ct_mono.specs.Checked.{verdict_ok}
+use Rattle.ct_checked.specs.Checked.{verdict_ok}
 use Rattle.ct_mono.specs.Division.{over, over_is}
-use Rattle.ct_mono.specs.Loop.{Falls}
+use Rattle.ct_checked.specs.Loop.{Falls}
 use Rattle.ct_mono.specs.Rank.{rank-less}
 use Rattle.ct_poly.specs.Division.{Dividing, whole_over, both_over, term_over, leading_over, next_term, step_of, checked_step, leading_rank, dividing_rank}
 use Rattle.ct_poly.specs.DivisionLaws.{EachDivisionStepFalls}

@@ -17,11 +17,11 @@ use Rattle.ct_algebra.specs.Terms.{IsCanonical}
 use Rattle.ct_algebra.specs.WholeNumbers.{int_group}
 use Rattle.ct_algebra.proofs.TermProducts.{sum_of-none, sum_of-append}
 use Rattle.ct_int.proofs.OperationLaws.{abs-neg}
-use Rattle.ct_mono.specs.Checked.{◌>>=◌, verdict_fits}
+use Rattle.ct_checked.specs.Checked.{◌>>=◌, verdict_fits}
 use Rattle.ct_mono.specs.Division.{over-·}
-use Rattle.ct_mono.specs.Limits.{most_terms, largest_norm}
-use Rattle.ct_mono.specs.Loop.{run, run_done, run_more}
-use Rattle.ct_mono.specs.declared.fault.Kind.TheVariants.{Terms, Number}
+use Rattle.ct_checked.specs.Limits.{most_terms, largest_norm}
+use Rattle.ct_checked.specs.Loop.{run, run_done, run_more}
+use Rattle.ct_checked.specs.declared.fault.Kind.TheVariants.{Terms, Number}
 use Rattle.ct_poly.specs.Division.{Dividing, both_over, leading_over, next_term, step_rules, step_overflow, step_of, checked_step, dividing_rank, whole_dividend, found_quotient, checked_quotient}
 use Rattle.ct_poly.specs.Measures.{minus, broken}
 use Rattle.ct_poly.proofs.DivisionSteps.{division_falls, term-neg}

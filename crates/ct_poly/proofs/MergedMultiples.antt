@@ -10,7 +10,7 @@ use Rattle.ct_algebra.specs.Polynomial.{plus, times}
 use Rattle.ct_algebra.specs.Terms.{AllBelow, IsCanonical, by_order, value_at, pick}
 use Rattle.ct_algebra.specs.WholeNumbers.{int_group}
 use Rattle.ct_algebra.proofs.Merging as merging
-use Rattle.ct_mono.specs.Limits.{largest_norm}
+use Rattle.ct_checked.specs.Limits.{largest_norm}
 use Rattle.ct_poly.specs.Accumulation.{EachAbove, count_above, BeginsBelow, IsBlock, Joins, Precedes, Meets}
 use Rattle.ct_poly.specs.declared.term.Term.{Term}
 use Rattle.ct_poly.specs.Terms.{entries, size_of, IsFalling, IsListOf, CanMultiply, poly_of_terms}

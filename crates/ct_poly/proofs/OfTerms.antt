@@ -6,7 +6,7 @@ use Rattle.ct_algebra.specs.Sums.{same_terms}
 use Rattle.ct_algebra.specs.Terms.{IsCanonical, EachTerm}
 use Rattle.ct_algebra.specs.WholeNumbers.{int_group}
 use Rattle.ct_algebra.specs.Polynomial.{Polynomial, poly_of, norm_of, count, norm, terms-poly_of}
-use Rattle.ct_mono.specs.Limits.{most_terms, largest_norm}
+use Rattle.ct_checked.specs.Limits.{most_terms, largest_norm}
 use Rattle.ct_poly.specs.declared.term.Term.{Term}
 use Rattle.ct_poly.specs.Terms.{entries, IsListOf, poly_of_terms}
 use Rattle.ct_poly.specs.Content.{TermDivides, divided}

@@ -4,9 +4,9 @@
 use Rattle.std.proofs.Common.{◌≡◌, refl, ℕ, ◌+◌, ◌*◌, ◌≤◌, ◌<◌, Bool, true, false, ltb, cond, sym, ◌∙◌, ap, arith, Some, None, Option, ltb-false, lt-ltb, le-ltb, eq-eqb, ne_eqb}
 use Rattle.ct_algebra.specs.Names.{Name}
 use Rattle.ct_algebra.specs.Polynomial.{Polynomial, count, norm, degree}
-use Rattle.ct_mono.specs.Limits.{largest_degree, most_terms, largest_norm}
-use Rattle.ct_mono.specs.declared.fault.Kind.{Kind}
-use Rattle.ct_mono.specs.declared.fault.Kind.TheVariants.{Degree, Terms, Number}
+use Rattle.ct_checked.specs.Limits.{largest_degree, most_terms, largest_norm}
+use Rattle.ct_checked.specs.declared.fault.Kind.{Kind}
+use Rattle.ct_checked.specs.declared.fault.Kind.TheVariants.{Degree, Terms, Number}
 use Rattle.ct_poly.specs.Measures.{broken, sum_overflow, product_overflow, shift_overflow, derivative_overflow, shift_count, shift_norm, derivative_norm}
 
 -- ---- one rule

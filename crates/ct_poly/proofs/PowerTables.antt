@@ -13,7 +13,7 @@ use Rattle.ct_algebra.specs.Polynomial.{polys, plus_is, times}
 use Rattle.ct_algebra.specs.Substitution.{term, name_is, number_is, one_is}
 use Rattle.ct_algebra.specs.Terms.{is_less}
 use Rattle.ct_algebra.specs.WholeNumbers.{int_is_zero}
-use Rattle.ct_mono.specs.Limits.{largest_degree, largest_norm}
+use Rattle.ct_checked.specs.Limits.{largest_degree, largest_norm}
 use Rattle.ct_mono.proofs.ExponentLaws.{total-unit, total-with_exponent}
 use Rattle.ct_poly.specs.declared.term.Term.{Term}
 use Rattle.ct_poly.specs.Powers.{binomial, IsPower}

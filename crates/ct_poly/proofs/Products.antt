@@ -9,7 +9,7 @@ use Rattle.ct_algebra.specs.Terms.{IsCanonical}
 use Rattle.ct_algebra.proofs.Merging.{front_canonical, back_canonical}
 use Rattle.ct_algebra.specs.Polynomial.{polys, poly_of, norm_of, plus, times, times_is}
 use Rattle.ct_algebra.proofs.TermLists.{poly_of-none, poly_of-row, times-append, row_canonical, row_of}
-use Rattle.ct_mono.specs.Limits.{largest_norm}
+use Rattle.ct_checked.specs.Limits.{largest_norm}
 use Rattle.ct_poly.specs.declared.term.Term.{Term}
 use Rattle.ct_poly.specs.Terms.{entries, entry, size_of, greatest_total, IsListOf, CanMultiply, poly_of_terms}
 use Rattle.ct_poly.proofs.TermLists.{no_length, entries-append, length-entries, norm_of-entries, norm_of-row, length-row}

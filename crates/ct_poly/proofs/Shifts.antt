@@ -10,7 +10,7 @@ use Rattle.ct_algebra.specs.Terms.{IsCanonical}
 use Rattle.ct_algebra.specs.WholeNumbers.{int_group}
 use Rattle.ct_algebra.proofs.Merging.{front_canonical, back_canonical}
 use Rattle.ct_mono.specs.Exponents.{with_exponent}
-use Rattle.ct_mono.specs.Limits.{largest_degree, largest_norm}
+use Rattle.ct_checked.specs.Limits.{largest_degree, largest_norm}
 use Rattle.ct_mono.proofs.ExponentLaws.{total-with_exponent}
 use Rattle.ct_poly.specs.declared.term.Term.{Term}
 use Rattle.ct_poly.specs.declared.shift.Powers.{Powers}

@@ -7,14 +7,14 @@ use Rattle.ct_algebra.specs.Sums.{none, none_of, has_none}
 use Rattle.ct_algebra.specs.Derivative.{derived}
 use Rattle.ct_algebra.specs.Monomial.{Mono, monomials, exp}
 use Rattle.ct_algebra.specs.Names.{place, name_with}
-use Rattle.ct_mono.specs.declared.fault.Kind.TheVariants.{Terms, Number}
+use Rattle.ct_checked.specs.declared.fault.Kind.TheVariants.{Terms, Number}
 use Rattle.ct_algebra.specs.WholeNumbers.{int_group}
 use Rattle.ct_algebra.specs.Polynomial.{Polynomial, polys, plus, times, times_is, count, norm}
 use Rattle.ct_algebra.specs.Ring.{zero_mul, mul_zero}
 use Rattle.ct_algebra.specs.Substitution.{term}
-use Rattle.ct_mono.specs.Limits.{most_terms, largest_norm}
+use Rattle.ct_checked.specs.Limits.{most_terms, largest_norm}
 use Rattle.ct_poly.specs.declared.term.Term.{Term}
-use Rattle.ct_mono.specs.Checked.{verdict, verdict_fits, verdict_refuses}
+use Rattle.ct_checked.specs.Checked.{verdict, verdict_fits, verdict_refuses}
 use Rattle.ct_poly.specs.Terms.{size_of, IsFalling, IsListOf, CanMultiply, poly_of_terms, derivative_size, shift_size, shift_length}
 use Rattle.ct_poly.specs.Measures.{minus, sum_overflow, product_overflow, checked_minus, checked_times, derivative_norm, checked_derived, shifted, shift_norm, shift_count, shift_overflow, checked_shifted}
 use Rattle.ct_poly.proofs.OverflowRules.{ProductFits, sum_fits_only, product_fits_only, product_with_zero, derivative_too_large, derivative_fits, shift_too_many, shift_too_large, shift_fits, shift_by_none_fits}

@@ -3,10 +3,10 @@
 use Rattle.std.specs.Prelude.{◌≡◌, refl, ℕ, ◌<◌, ◌≤◌, Bool, true, false, ltb, Ok, Err, None}
 use Rattle.std.proofs.Common.{ap, arith}
 use Rattle.std.proofs.lemmas.Bool.{lt-ltb, le-ltb, ltb-false}
-use Rattle.ct_mono.specs.Checked.{verdict, verdict_ok, verdict_fits, verdict_refuses}
-use Rattle.ct_mono.specs.Limits.{largest_norm}
-use Rattle.ct_mono.specs.declared.fault.Kind.{Kind}
-use Rattle.ct_mono.specs.declared.fault.Kind.TheVariants.{Number}
+use Rattle.ct_checked.specs.Checked.{verdict, verdict_ok, verdict_fits, verdict_refuses}
+use Rattle.ct_checked.specs.Limits.{largest_norm}
+use Rattle.ct_checked.specs.declared.fault.Kind.{Kind}
+use Rattle.ct_checked.specs.declared.fault.Kind.TheVariants.{Number}
 use Rattle.ct_poly.specs.Measures.{broken}
 use Rattle.ct_poly.specs.Wholes.{checked_whole}
 

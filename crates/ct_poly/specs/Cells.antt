@@ -17,7 +17,7 @@ use Rattle.ct_algebra.specs.Monomial.{Mono, exp, ◌·◌}
 use Rattle.ct_algebra.specs.Polynomial.{Polynomial, coefficient, times}
 use Rattle.ct_algebra.specs.Terms.{EachTerm}
 use Rattle.ct_mono.specs.Division.{Divides}
-use Rattle.ct_mono.specs.Limits.{most_terms, largest_norm}
+use Rattle.ct_checked.specs.Limits.{most_terms, largest_norm}
 use Rattle.ct_poly.specs.declared.cells.Spot.{Spot}
 use Rattle.ct_poly.specs.declared.term.Term.{Term}
 use Rattle.ct_poly.specs.Terms.{entries, poly_of_terms, size_of}

@@ -18,13 +18,13 @@ use Rattle.ct_algebra.specs.Monomial.{Mono}
 use Rattle.ct_algebra.specs.Polynomial.{Polynomial, polys, plus, times, count, norm}
 use Rattle.ct_algebra.specs.Substitution.{term}
 use Rattle.ct_algebra.specs.WholeNumbers.{int_is_zero}
-use Rattle.ct_mono.specs.Checked.{Checked, verdict, ◌>>=◌}
+use Rattle.ct_checked.specs.Checked.{Checked, verdict, ◌>>=◌}
 use Rattle.ct_mono.specs.Division.{over}
-use Rattle.ct_mono.specs.Limits.{most_terms, largest_norm}
-use Rattle.ct_mono.specs.Loop.{run, turn}
+use Rattle.ct_checked.specs.Limits.{most_terms, largest_norm}
+use Rattle.ct_checked.specs.Loop.{run, turn}
 use Rattle.ct_mono.specs.Rank.{mono_rank}
-use Rattle.ct_mono.specs.declared.fault.Kind.{Kind}
-use Rattle.ct_mono.specs.declared.fault.Kind.TheVariants.{Terms, Number}
+use Rattle.ct_checked.specs.declared.fault.Kind.{Kind}
+use Rattle.ct_checked.specs.declared.fault.Kind.TheVariants.{Terms, Number}
 use Rattle.ct_poly.specs.Measures.{minus, broken}
 
 -- ---- terms

@@ -4,7 +4,7 @@ use Rattle.std.specs.Prelude.{◌≡◌, ◌↔◌, ℕ, ◌+◌, ◌*◌, ◌<�
 use Rattle.ct_algebra.specs.Derivative.{derived}
 use Rattle.ct_algebra.specs.Names.{Name}
 use Rattle.ct_algebra.specs.Polynomial.{Polynomial, polys, plus, times, count, norm, degree}
-use Rattle.ct_mono.specs.Limits.{largest_degree, most_terms, largest_norm}
+use Rattle.ct_checked.specs.Limits.{largest_degree, most_terms, largest_norm}
 use Rattle.ct_poly.specs.Measures.{minus, shifted, shift_count, shift_norm, derivative_norm, sum_overflow, product_overflow, checked_plus, checked_minus, checked_times, checked_shifted, checked_derived}
 
 -- a sum fits exactly where the counts and the norms have room together

@@ -12,10 +12,10 @@ use Rattle.ct_algebra.specs.Names.{Name, place}
 use Rattle.ct_algebra.specs.Polynomial.{Polynomial, polys, plus, times, count, norm, degree}
 use Rattle.ct_algebra.specs.Substitution.{shift}
 use Rattle.ct_algebra.specs.Derivative.{derived}
-use Rattle.ct_mono.specs.Limits.{largest_degree, most_terms, largest_norm}
-use Rattle.ct_mono.specs.Checked.{Checked, verdict}
-use Rattle.ct_mono.specs.declared.fault.Kind.{Kind}
-use Rattle.ct_mono.specs.declared.fault.Kind.TheVariants.{Degree, Terms, Number}
+use Rattle.ct_checked.specs.Limits.{largest_degree, most_terms, largest_norm}
+use Rattle.ct_checked.specs.Checked.{Checked, verdict}
+use Rattle.ct_checked.specs.declared.fault.Kind.{Kind}
+use Rattle.ct_checked.specs.declared.fault.Kind.TheVariants.{Degree, Terms, Number}
 
 -- the kind, where the rule is broken, or else what later rules say
 abbrev pub broken : Bool → Kind → Option Kind → Option Kind

@@ -9,7 +9,7 @@ use Rattle.std.specs.Global.{Vec}
 use Rattle.ct_algebra.specs.Names.{name_with}
 use Rattle.ct_algebra.specs.Polynomial.{Polynomial, polys, plus, times}
 use Rattle.ct_algebra.specs.Substitution.{name, number}
-use Rattle.ct_mono.specs.Limits.{largest_degree, largest_norm}
+use Rattle.ct_checked.specs.Limits.{largest_degree, largest_norm}
 use Rattle.ct_poly.specs.declared.term.Term.{Term}
 use Rattle.ct_poly.specs.declared.shift.Powers.{Powers}
 use Rattle.ct_poly.specs.Terms.{IsFalling, poly_of_terms, size_of, greatest_total, shift_size, greatest_exp}

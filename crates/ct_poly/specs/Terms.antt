@@ -12,7 +12,7 @@ use Rattle.ct_algebra.specs.Monomial.{Mono, monomials, total, exp}
 use Rattle.ct_algebra.specs.WholeNumbers.{int_group}
 use Rattle.ct_algebra.specs.Terms.{IsCanonical}
 use Rattle.ct_algebra.specs.Polynomial.{Polynomial, poly_of}
-use Rattle.ct_mono.specs.Limits.{largest_degree, largest_norm}
+use Rattle.ct_checked.specs.Limits.{largest_degree, largest_norm}
 use Rattle.ct_poly.specs.declared.term.Term.{Term}
 
 abbrev pub entry : Term → Mono × ℤ

@@ -2,7 +2,7 @@
 ghost use Rattle.std.specs.Prelude.{◌≡◌, ◌+◌, ◌*◌, ◌*ℤ◌, ◌++◌, ◌≤◌, IfOk, IfSome, length, unsigned_abs, [], ◌∷◌};
 ghost use Rattle.ct_algebra.specs.Monomial.{◌·◌, total};
 ghost use Rattle.ct_algebra.specs.Polynomial.{plus, times};
-ghost use Rattle.ct_mono.specs.Limits.{largest_degree, largest_norm};
+ghost use Rattle.ct_checked.specs.Limits.{largest_degree, largest_norm};
 ghost use Rattle.ct_poly.specs.Accumulation.{EachAbove, IsBlock, Meets, count_above};
 ghost use Rattle.ct_poly.specs.Terms.{CanMultiply, IsFalling, IsListOf, entries, poly_of_terms, size_of};
 

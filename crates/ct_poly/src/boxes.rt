@@ -2,7 +2,7 @@
 ghost use Rattle.std.specs.Prelude.{◌≡◌, ◌+◌, ◌≤◌, ◌<◌, IfSome};
 ghost use Rattle.ct_algebra.specs.Monomial.{exp};
 ghost use Rattle.ct_mono.specs.Division.{Divides};
-ghost use Rattle.ct_mono.specs.Limits.{largest_degree};
+ghost use Rattle.ct_checked.specs.Limits.{largest_degree};
 ghost use Rattle.ct_poly.specs.Cells.{AreInBox, cell_of, cells_of, most_cells};
 
 use crate::term::Term;

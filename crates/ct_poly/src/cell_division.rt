@@ -2,7 +2,7 @@
 // nothing is left, what was taken is the quotient; where this fails or does not pay, nothing is told.
 ghost use Rattle.std.specs.Prelude.{◌≡◌, ◌≢◌, ◌+◌, ◌≤◌, ◌<◌, All, IfOk, IfSome, IsTrue, length, pos, replicate, unsigned_abs};
 ghost use Rattle.ct_mono.specs.Division.{Divides};
-ghost use Rattle.ct_mono.specs.Limits.{most_terms, largest_norm};
+ghost use Rattle.ct_checked.specs.Limits.{most_terms, largest_norm};
 ghost use Rattle.ct_poly.specs.Cells.{AreInBox, AreMultiplesInBox, HasRoom, IsDivisor, IsQuotient, IsTableOf, cell_of, cells_of, most_cells, spots};
 ghost use Rattle.ct_poly.specs.Terms.{size_of};
 

@@ -1,6 +1,6 @@
 // Cells: the coefficients of a polynomial as a table by monomials, to which multiples of a row of terms are added in place.
 ghost use Rattle.std.specs.Prelude.{◌≡◌, ◌+◌, ◌*◌, ◌<◌, ◌≤◌, All, length, unsigned_abs};
-ghost use Rattle.ct_mono.specs.Limits.{largest_norm};
+ghost use Rattle.ct_checked.specs.Limits.{largest_norm};
 ghost use Rattle.ct_poly.specs.Cells.{added, size_of_cells, size_of_spots};
 
 use crate::product::product_of_coefs;

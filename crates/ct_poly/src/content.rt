@@ -2,7 +2,7 @@
 ghost use Rattle.std.specs.Prelude.{◌≡◌, ◌≤◌, ◌<◌, ℕ, min, map, IfOk, unsigned_abs, pos, int_div};
 ghost use Rattle.ct_algebra.specs.Monomial.{exp, mono};
 ghost use Rattle.ct_algebra.specs.Terms.{EachTerm};
-ghost use Rattle.ct_mono.specs.Limits.{largest_norm};
+ghost use Rattle.ct_checked.specs.Limits.{largest_norm};
 ghost use Rattle.ct_poly.specs.Terms.{entries, entry, size_of, IsFalling};
 ghost use Rattle.ct_poly.specs.Content.{IsContentOf, TermDivides, term_divided, leads_below_zero, least_exp};
 

@@ -2,7 +2,7 @@
 ghost use Rattle.std.specs.Prelude.{◌≡◌, ◌-◌, ◌^◌, ◌<◌, ◌≤◌, IfOk, length, min};
 ghost use Rattle.ct_algebra.specs.Derivative.{derived};
 ghost use Rattle.ct_algebra.specs.Names.{name_with};
-ghost use Rattle.ct_mono.specs.Limits.{largest_degree, largest_norm};
+ghost use Rattle.ct_checked.specs.Limits.{largest_degree, largest_norm};
 ghost use Rattle.ct_poly.specs.Terms.{IsFalling, IsListOf, poly_of_terms, greatest_total, derivative_size};
 
 use crate::product::product_of_coefs;

@@ -3,8 +3,8 @@ ghost use Rattle.std.specs.Prelude.{◌≡◌, ◌≢◌, ◌+◌, ◌*◌, ◌�
 ghost use Rattle.ct_algebra.specs.Leading.{leading};
 ghost use Rattle.ct_algebra.specs.Polynomial.{Polynomial, polys, times};
 ghost use Rattle.ct_algebra.specs.Substitution.{term};
-ghost use Rattle.ct_mono.specs.Checked.{Answers};
-ghost use Rattle.ct_mono.specs.Limits.{most_terms, largest_norm};
+ghost use Rattle.ct_checked.specs.Checked.{Answers};
+ghost use Rattle.ct_checked.specs.Limits.{most_terms, largest_norm};
 ghost use Rattle.ct_poly.specs.Division.{checked_quotient, quotient, leading_over, step_rules, whole_over};
 ghost use Rattle.ct_poly.specs.Measures.{minus};
 ghost use Rattle.ct_poly.specs.Terms.{entries, entry, size_of, IsFalling, IsListOf, poly_of_terms};

@@ -1,6 +1,6 @@
 // Lists of terms in any order, gathered into one whose monomials fall.
 ghost use Rattle.std.specs.Prelude.{◌≡◌, ◌≤◌, false, IfOk, IsTrue, length};
-ghost use Rattle.ct_mono.specs.Limits.{largest_norm};
+ghost use Rattle.ct_checked.specs.Limits.{largest_norm};
 ghost use Rattle.ct_poly.specs.Terms.{IsFalling, IsListOf, poly_of_terms, size_of};
 
 use crate::sum::sum_of_terms;

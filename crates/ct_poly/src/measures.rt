@@ -3,7 +3,7 @@ ghost use Rattle.std.specs.Prelude.{◌≡◌, ◌≤◌, ◌<◌, ◌↔◌, fa
 ghost use Rattle.ct_algebra.specs.Monomial.{exp};
 ghost use Rattle.ct_algebra.specs.Polynomial.{degree_of};
 ghost use Rattle.ct_algebra.specs.Terms.{EachTerm};
-ghost use Rattle.ct_mono.specs.Limits.{largest_degree, largest_norm};
+ghost use Rattle.ct_checked.specs.Limits.{largest_degree, largest_norm};
 ghost use Rattle.ct_poly.specs.Terms.{entries, entry, size_of};
 
 use crate::term::Term;

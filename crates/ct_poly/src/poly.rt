@@ -4,8 +4,8 @@ ghost use Rattle.ct_algebra.specs.FreeOf.{IsFreeOf};
 ghost use Rattle.ct_algebra.specs.Names.{name_with};
 ghost use Rattle.ct_algebra.specs.Polynomial.{polys, plus, count, norm};
 ghost use Rattle.ct_algebra.specs.Substitution.{term, number, name};
-ghost use Rattle.ct_mono.specs.Checked.{Answers};
-ghost use Rattle.ct_mono.specs.Limits.{most_terms, largest_norm};
+ghost use Rattle.ct_checked.specs.Checked.{Answers};
+ghost use Rattle.ct_checked.specs.Limits.{most_terms, largest_norm};
 ghost use Rattle.ct_poly.specs.Terms.{entries, IsFalling, size_of};
 ghost use Rattle.ct_poly.specs.Measures.{sum_overflow, product_overflow, checked_plus, checked_minus, checked_times, checked_shifted, checked_derived};
 
@@ -28,7 +28,7 @@ pub struct Poly {
 impl Model for Poly {
     ghost use Rattle.std.specs.Prelude.{◌≤◌, length};
     ghost use Rattle.ct_algebra.specs.Polynomial.{Polynomial, poly_code};
-    ghost use Rattle.ct_mono.specs.Limits.{most_terms, largest_norm};
+    ghost use Rattle.ct_checked.specs.Limits.{most_terms, largest_norm};
     ghost use Rattle.ct_poly.specs.Terms.{poly_of_terms, IsFalling, size_of};
 
     ghost Value = { Polynomial };

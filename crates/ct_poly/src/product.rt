@@ -3,7 +3,7 @@
 ghost use Rattle.std.specs.Prelude.{◌≡◌, ◌+◌, ◌*◌, ◌*ℤ◌, ◌≤◌, IfOk, length, unsigned_abs, [], ◌∷◌};
 ghost use Rattle.ct_algebra.specs.Monomial.{total};
 ghost use Rattle.ct_algebra.specs.Polynomial.{times};
-ghost use Rattle.ct_mono.specs.Limits.{largest_degree, largest_norm};
+ghost use Rattle.ct_checked.specs.Limits.{largest_degree, largest_norm};
 ghost use Rattle.ct_poly.specs.Terms.{CanMultiply, IsListOf, poly_of_terms, size_of};
 
 use crate::sum::sum_of_terms;

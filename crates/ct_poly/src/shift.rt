@@ -2,7 +2,7 @@
 // list give is merged.
 ghost use Rattle.std.specs.Prelude.{◌≡◌, ◌+◌, ◌-◌, ◌^◌, ◌<◌, ◌≤◌, IfOk, [], ◌∷◌, length, min, pos, vec_len};
 ghost use Rattle.ct_algebra.specs.Names.{name_with};
-ghost use Rattle.ct_mono.specs.Limits.{largest_degree, largest_norm, most_terms};
+ghost use Rattle.ct_checked.specs.Limits.{largest_degree, largest_norm, most_terms};
 ghost use Rattle.ct_poly.specs.Measures.{shifted};
 ghost use Rattle.ct_poly.specs.Powers.{binomial, IsPowerTable, CanShift};
 ghost use Rattle.ct_poly.specs.Terms.{IsFalling, IsListOf, poly_of_terms, greatest_total, shift_size, shift_length, greatest_exp};

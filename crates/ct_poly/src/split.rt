@@ -4,7 +4,7 @@ ghost use Rattle.ct_algebra.specs.Monomial.{unit};
 ghost use Rattle.ct_algebra.specs.Polynomial.{polys};
 ghost use Rattle.ct_algebra.specs.Terms.{EachTerm};
 ghost use Rattle.ct_poly.specs.Content.{DividesEach, TermDivides, divided, content, common_monomial, is_negative, signed, signed_content, primitive_form, primitive_part};
-ghost use Rattle.ct_mono.specs.Limits.{largest_norm};
+ghost use Rattle.ct_checked.specs.Limits.{largest_norm};
 
 use crate::content::{
     common_monomial_of_terms, content_of_terms, divided_terms, is_first_negative,

@@ -1,7 +1,7 @@
 // Sums of lists of terms, by merging them, and negatives.
 ghost use Rattle.std.specs.Prelude.{◌≡◌, ◌+◌, ◌≤◌, ◌++◌, ◌+ℤ◌, IfOk, length, neg_ℤ, unsigned_abs};
 ghost use Rattle.ct_algebra.specs.Polynomial.{plus, polys};
-ghost use Rattle.ct_mono.specs.Limits.{largest_norm};
+ghost use Rattle.ct_checked.specs.Limits.{largest_norm};
 ghost use Rattle.ct_poly.specs.Terms.{IsFalling, IsListOf, poly_of_terms, size_of};
 
 use crate::term::Term;

@@ -1,7 +1,7 @@
 // Whole numbers within the limit.
 ghost use Rattle.std.specs.Prelude.{◌≡◌, ◌*◌, ◌<◌, ◌≤◌};
 ghost use Rattle.ct_int.specs.Divisors.{least_common};
-ghost use Rattle.ct_mono.specs.Checked.{Answers};
+ghost use Rattle.ct_checked.specs.Checked.{Answers};
 ghost use Rattle.ct_poly.specs.Wholes.{checked_whole};
 
 use ct_int::gcd;

@@ -11,7 +11,7 @@ use Rattle.ct_problem.specs.Input.{Input, next, tail, is_sign, is_word, sees, se
 use Rattle.ct_problem.specs.Input as input
 use Rattle.ct_problem.specs.Lexemes.{Lexeme, Word, Number, Sign, Dots, LineEnd, lexeme_of, lexemes, decimal}
 use Rattle.ct_problem.specs.Number.{value_of}
-use Rattle.ct_mono.specs.Limits.{largest_norm}
+use Rattle.ct_checked.specs.Limits.{largest_norm}
 use Rattle.ct_problem.proofs.Slices.{slice_of-slice}
 
 abbrev pub shown : Input → List Lexeme

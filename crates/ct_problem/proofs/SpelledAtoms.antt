@@ -7,7 +7,7 @@ use Rattle.std.proofs.lemmas.Slice.Eq.{bytes_eq-Decides}
 use Rattle.ct_token.specs.declared.token.Symbol.{Symbol}
 use Rattle.ct_token.specs.declared.token.Symbol.TheVariants as symbol
 use Rattle.ct_algebra.specs.Actions.{Action, Shift, Derive}
-use Rattle.ct_mono.specs.Limits.{largest_norm}
+use Rattle.ct_checked.specs.Limits.{largest_norm}
 use Rattle.ct_expr.specs.declared.expr.Expr.{Expr}
 use Rattle.ct_expr.specs.declared.expr.Expr.TheVariants as e
 use Rattle.ct_problem.specs.declared.fault.BadKind.TheVariants.{WrongKind, ZeroDenominator}

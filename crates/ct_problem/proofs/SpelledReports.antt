@@ -1,6 +1,6 @@
 -- What is read as the lines of a report before the last one is spelled so. Main lemma `Goes-report_lines`.
 use Rattle.std.proofs.Common.{◌≡◌, ℕ, zero, suc, ◌+◌, ◌≤◌, true, false, List, [], ◌∷◌, ◌++◌, length, refl, ap, arith, codes}
-use Rattle.ct_mono.specs.Limits.{largest_norm}
+use Rattle.ct_checked.specs.Limits.{largest_norm}
 use Rattle.ct_expr.specs.declared.expr.Expr.{Expr}
 use Rattle.ct_problem.specs.declared.fault.BadKind.TheVariants.{OutOfRange}
 use Rattle.ct_problem.specs.declared.report.Quotient.{Quotient}

@@ -1,7 +1,7 @@
 -- Lexemes that stand for ranges, for `gen` lines, or for a `use` line, are read as what they stand for.
 use Rattle.std.proofs.Common.{◌≡◌, ℕ, ◌<◌, ◌≤◌, Bool, false, cond, nat_lt, List, [], ◌∷◌, ◌++◌, Option, Some, None, refl, arith, codes}
 use Rattle.std.proofs.lemmas.Bool.{le-ltb}
-use Rattle.ct_mono.specs.Limits.{largest_norm}
+use Rattle.ct_checked.specs.Limits.{largest_norm}
 use Rattle.ct_problem.specs.declared.fault.BadKind.TheVariants.{OutOfRange, EmptyRange}
 use Rattle.ct_problem.specs.declared.problem.Range.{Range}
 use Rattle.ct_problem.specs.declared.problem.Gens.{Gens}

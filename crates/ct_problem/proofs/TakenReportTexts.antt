@@ -1,7 +1,7 @@
 -- A text that stands for a report is read as that report. Main lemma `report_taken`; `read_found_report` cites `gives_no_report`.
 use Rattle.std.proofs.Common.{◌≡◌, ℕ, ◌<◌, Bool, cond, List, [], ◌++◌, length, Some, None, Ok, refl, sym, ap, ◌∙◌, subst}
 use Rattle.std.proofs.lemmas.List.{append-nil}
-use Rattle.ct_mono.specs.Limits.{largest_norm}
+use Rattle.ct_checked.specs.Limits.{largest_norm}
 use Rattle.ct_token.specs.Lexical.{scan_of}
 use Rattle.ct_ore.specs.Naming.{Naming}
 use Rattle.ct_problem.specs.declared.report.Report.{Report}

@@ -7,7 +7,7 @@ use Rattle.ct_token.specs.declared.token.Symbol.TheVariants as symbol
 use Rattle.ct_token.specs.declared.token.Token.{Token}
 use Rattle.ct_token.specs.Lexical.{is_line_end}
 use Rattle.ct_token.specs.Lexing.{slice}
-use Rattle.ct_mono.specs.Limits.{largest_norm}
+use Rattle.ct_checked.specs.Limits.{largest_norm}
 use Rattle.ct_problem.specs.declared.fault.BadKind.{BadKind}
 use Rattle.ct_problem.specs.declared.fault.BadKind.TheVariants.{NumberTooLarge}
 use Rattle.ct_problem.specs.Input.{Input, Outcome, Parser, ◌>>=◌, ◌>>◌, and_then, pure, syntax, skip, next, has_line_end, fresh_line, fresh_by, line_end, line_end_by, dots, dots_by, spelling}

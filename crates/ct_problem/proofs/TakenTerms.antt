@@ -1,7 +1,7 @@
 -- Lexemes that stand for a term are read as that term. Main lemma `Takes-term`, rule by rule.
 use Rattle.std.proofs.Common.{◌≡◌, ℕ, zero, suc, ◌≤◌, Bool, false, cond, List, [], ◌∷◌, ◌++◌, length, Option, refl, sym, ap, subst, arith, codes, length-append}
 use Rattle.std.proofs.lemmas.List.{append_assoc}
-use Rattle.ct_mono.specs.Limits.{largest_degree}
+use Rattle.ct_checked.specs.Limits.{largest_degree}
 use Rattle.ct_expr.specs.declared.expr.Expr.{Expr}
 use Rattle.ct_expr.specs.declared.expr.Expr.TheVariants as expr
 use Rattle.ct_problem.specs.declared.fault.BadKind.TheVariants.{ExponentTooLarge}

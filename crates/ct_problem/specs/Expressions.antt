@@ -10,7 +10,7 @@
 --     expression names operators    the rule of an expression under these names, with or without operators
 use Rattle.std.specs.Prelude.{ℕ, zero, suc, ◌==◌, Bool, true, false, if◌then◌else◌, List, [], ◌∷◌, ◌++◌, length, slice_get, Option, Some, None, pos, ◌||◌, is_none, codes}
 use Rattle.ct_algebra.specs.Actions.{Action, Shift, Derive}
-use Rattle.ct_mono.specs.Limits.{largest_degree}
+use Rattle.ct_checked.specs.Limits.{largest_degree}
 use Rattle.ct_token.specs.declared.token.Symbol.{Symbol}
 use Rattle.ct_token.specs.declared.token.Symbol.TheVariants.{Word, Number, Sign}
 use Rattle.ct_expr.specs.declared.expr.Expr.{Expr}

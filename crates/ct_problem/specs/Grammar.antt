@@ -11,7 +11,7 @@
 --     IsExpression names operators x ls     these lexemes are an EXPR that stands for x, with operators or without
 use Rattle.std.specs.Prelude.{◌≡◌, ◌≢◌, ℕ, zero, suc, Bool, false, if◌then◌else◌, List, [], ◌∷◌, map, position, slice_get, Some, IsTrue, pos, codes}
 use Rattle.ct_algebra.specs.Actions.{Action, Shift, Derive}
-use Rattle.ct_mono.specs.Limits.{largest_degree, largest_norm}
+use Rattle.ct_checked.specs.Limits.{largest_degree, largest_norm}
 use Rattle.ct_expr.specs.declared.expr.Expr.{Expr}
 use Rattle.ct_expr.specs.declared.expr.Expr.TheVariants as e
 use Rattle.ct_expr.specs.declared.expr.Summand.{Summand, roll-Summand}

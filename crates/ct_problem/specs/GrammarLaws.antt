@@ -6,7 +6,7 @@
 -- So whoever asks what a text means may leave the rules aside, and read `StandsFor` and `ReportStandsFor` alone.
 use Rattle.std.specs.Prelude.{◌≡◌, ◌<◌, ◌↔◌, ℕ, List, Ok, Some}
 use Rattle.ct_io.specs.declared.command.Command.{Command}
-use Rattle.ct_mono.specs.Limits.{largest_norm}
+use Rattle.ct_checked.specs.Limits.{largest_norm}
 use Rattle.ct_ore.specs.Naming.{Naming}
 use Rattle.ct_problem.specs.declared.report.Report.{Report}
 use Rattle.ct_problem.specs.GrammarProblem.{StandsFor}

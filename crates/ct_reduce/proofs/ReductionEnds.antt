@@ -19,7 +19,7 @@ use Rattle.ct_algebra.proofs.OperatorLawProofs.{finite_maps}
 use Rattle.ct_algebra.proofs.OperatorTerms.{at-multiple}
 use Rattle.ct_algebra.proofs.ProductRule.{multiple-one_term}
 use Rattle.ct_algebra.proofs.ShiftedLeading.{shifted_leads}
-use Rattle.ct_mono.specs.Loop.{Falls, run_is}
+use Rattle.ct_checked.specs.Loop.{Falls, run_is}
 use Rattle.ct_mono.specs.Rank.{rank-less}
 use Rattle.ct_poly.specs.Division.{quotient}
 use Rattle.ct_poly.proofs.DivisionLaws.{quotient_is}

@@ -12,7 +12,7 @@ use Rattle.ct_algebra.specs.Actions.{Action}
 use Rattle.ct_algebra.specs.Operators.{Operator, sum_of_operators, negative, term_of, no_operator, product_of, multiple}
 use Rattle.ct_algebra.proofs.AppliedOperators.{multiple-one}
 use Rattle.ct_algebra.proofs.ProductRule.{product_of-polynomial}
-use Rattle.ct_mono.specs.Checked.{verdict_ok, both_fit}
+use Rattle.ct_checked.specs.Checked.{verdict_ok, both_fit}
 use Rattle.ct_poly.specs.Measures.{checked_times, product_overflow}
 use Rattle.ct_ore.specs.Measures.{checked_sum, checked_difference, difference_of_operators, checked_product, sum_overflow}
 use Rattle.ct_ore.specs.Measures as operators

@@ -23,9 +23,9 @@ use Rattle.ct_algebra.specs.Names.{Name}
 use Rattle.ct_algebra.specs.Polynomial.{Polynomial, polys}
 use Rattle.ct_algebra.specs.Actions.{Action}
 use Rattle.ct_algebra.specs.Operators.{Operator, term_of, no_operator}
-use Rattle.ct_mono.specs.Checked.{Checked, ◌>>=◌}
+use Rattle.ct_checked.specs.Checked.{Checked, ◌>>=◌}
 use Rattle.ct_mono.specs.Division.{over}
-use Rattle.ct_mono.specs.Loop.{run, turn}
+use Rattle.ct_checked.specs.Loop.{run, turn}
 use Rattle.ct_mono.specs.Rank.{mono_rank}
 use Rattle.ct_poly.specs.Division.{quotient}
 use Rattle.ct_poly.specs.Measures.{checked_times}

@@ -1,6 +1,6 @@
 // Left reduction.
 ghost use Rattle.std.specs.Prelude.{◌≡◌, IfOk, length};
-ghost use Rattle.ct_mono.specs.Checked.{AnswersBy};
+ghost use Rattle.ct_checked.specs.Checked.{AnswersBy};
 ghost use Rattle.ct_ore.specs.Naming.{actions_of};
 ghost use Rattle.ct_reduce.specs.Membership.{ReducesTo, IsReduced};
 ghost use Rattle.ct_reduce.specs.Reduction.{no_cofactors, reduction_from, checked_reduction};

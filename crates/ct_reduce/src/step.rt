@@ -2,7 +2,7 @@
 ghost use Rattle.std.specs.Prelude.{◌≡◌, ◌≢◌, ◌<◌, ◌++◌, ◌∷◌, [], IfOk, OnOk, length};
 ghost use Rattle.ct_algebra.specs.Leading.{leading};
 ghost use Rattle.ct_algebra.specs.Polynomial.{polys};
-ghost use Rattle.ct_mono.specs.Checked.{AnswersBy};
+ghost use Rattle.ct_checked.specs.Checked.{AnswersBy};
 ghost use Rattle.ct_poly.specs.Division.{quotient};
 ghost use Rattle.ct_ore.specs.Naming.{actions_of};
 ghost use Rattle.ct_reduce.specs.Reduction.{leading_coefficient, factor_for, share_for, is_one, checked_plan, checked_multiples, checked_multiplied, multiplied_unless_one, checked_taken};

@@ -4,8 +4,8 @@
 use Rattle.std.proofs.Common.{◌≡◌, refl, ℕ, ◌+◌, ◌≤◌, List, length, Option, Some, None, Result, Ok, Err, Bool, true, false, if◌then◌else◌, arith}
 use Rattle.ct_algebra.specs.Operators.{Operator}
 use Rattle.ct_algebra.specs.Certificate.{Certificate}
-use Rattle.ct_mono.specs.Checked.{Checked}
-use Rattle.ct_mono.specs.Limits.{largest_norm}
+use Rattle.ct_checked.specs.Checked.{Checked}
+use Rattle.ct_checked.specs.Limits.{largest_norm}
 use Rattle.ct_ore.specs.Naming.{Naming, IsAlgebra, actions_of, summed_of}
 use Rattle.ct_io.specs.declared.command.Command.{Command}
 use Rattle.ct_io.specs.declared.command.Command.TheVariants.{Telescope, Check, Reduce, Test, Close, Member, Gen, Demo}

@@ -16,7 +16,7 @@ use Rattle.ct_algebra.specs.Polynomial.{Polynomial}
 use Rattle.ct_algebra.specs.Actions.{Action}
 use Rattle.ct_algebra.specs.Operators.{Operator}
 use Rattle.ct_algebra.specs.Certificate.{Summand, Certificate, Certifies}
-use Rattle.ct_mono.specs.Checked.{Checked}
+use Rattle.ct_checked.specs.Checked.{Checked}
 use Rattle.ct_ore.specs.Naming.{Naming, actions_of, summed_of}
 use Rattle.ct_expr.specs.declared.expr.Expr.{Expr}
 use Rattle.ct_problem.specs.declared.problem.Range.{Range}

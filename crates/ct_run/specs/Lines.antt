@@ -7,8 +7,8 @@
 --     yes_line, no_line, overflow_in_test     the tests pass, one fails at its place, or one overflows there
 --     verdict_line names t            the line of the tests' outcome
 use Rattle.std.specs.Prelude.{ℕ, List, ◌++◌, Ok, Err, codes, decimal}
-use Rattle.ct_mono.specs.declared.fault.Kind.{Kind}
-use Rattle.ct_mono.specs.declared.fault.Kind.TheVariants.{Degree, Terms, Number, Size}
+use Rattle.ct_checked.specs.declared.fault.Kind.{Kind}
+use Rattle.ct_checked.specs.declared.fault.Kind.TheVariants.{Degree, Terms, Number, Size}
 use Rattle.ct_ore.specs.Naming.{Naming}
 use Rattle.ct_answer.specs.Text.{naming_at, name_text}
 use Rattle.ct_answer.specs.Reductions.{line_of}

@@ -9,7 +9,7 @@ use Rattle.ct_algebra.specs.Names.{Name}
 use Rattle.ct_algebra.specs.Actions.{Action}
 use Rattle.ct_algebra.specs.Operators.{Operator}
 use Rattle.ct_io.specs.declared.command.Command.TheVariants.{Reduce}
-use Rattle.ct_mono.specs.declared.fault.Kind.{Kind}
+use Rattle.ct_checked.specs.declared.fault.Kind.{Kind}
 use Rattle.ct_ore.specs.Naming.{Naming, actions_of}
 use Rattle.ct_reduce.specs.Membership.{Reduction, ReducesTo, IsReduced}
 use Rattle.ct_reduce.specs.Reduction.{checked_reduction}

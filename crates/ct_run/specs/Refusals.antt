@@ -3,8 +3,8 @@
 --     Refuses f o r        what a call may answer to an outcome: its value, seen through f, its refusal, or out of memory
 --     plain_of s           the code's generators and targets
 use Rattle.std.specs.Prelude.{◌≡◌, Result, Ok, Err}
-use Rattle.ct_mono.specs.declared.fault.Fault.{Fault}
-use Rattle.ct_mono.specs.declared.fault.Fault.TheVariants as fault
+use Rattle.ct_checked.specs.declared.fault.Fault.{Fault}
+use Rattle.ct_checked.specs.declared.fault.Fault.TheVariants as fault
 use Rattle.ct_run.specs.declared.setup.Plain as made
 use Rattle.ct_run.specs.declared.setup.Refusal as refusals
 use Rattle.ct_run.specs.declared.setup.Refusal.TheVariants as refusal

@@ -7,8 +7,8 @@ use Rattle.std.specs.Prelude.{ℕ, ◌==◌, List, [], length, Bool, if◌then�
 use Rattle.ct_algebra.specs.Names.{Name}
 use Rattle.ct_algebra.specs.Actions.{Action}
 use Rattle.ct_algebra.specs.Operators.{Operator}
-use Rattle.ct_mono.specs.Checked.{Checked}
-use Rattle.ct_mono.specs.declared.fault.Kind.{Kind}
+use Rattle.ct_checked.specs.Checked.{Checked}
+use Rattle.ct_checked.specs.declared.fault.Kind.{Kind}
 use Rattle.ct_ore.specs.Naming.{actions_of}
 use Rattle.ct_expr.specs.declared.expr.Expr.{Expr}
 use Rattle.ct_problem.specs.declared.problem.Gens.{Gens}

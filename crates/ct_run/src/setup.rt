@@ -1,6 +1,6 @@
 // What the expressions of a problem stand for, in text order.
 ghost use Rattle.std.specs.Prelude.{◌≡◌, [], not};
-ghost use Rattle.ct_mono.specs.Checked.{AnswersBy};
+ghost use Rattle.ct_checked.specs.Checked.{AnswersBy};
 ghost use Rattle.ct_ore.specs.Naming.{actions_of};
 ghost use Rattle.ct_problem.specs.ReadProblem.{is_empty, is_used, reading_of};
 ghost use Rattle.ct_problem.specs.WellFormed.{Each, IsOperator};

@@ -2,7 +2,7 @@
 ghost use Rattle.std.specs.Prelude.{◌≡◌, ◌<◌, ℕ, ◌++◌, [], ◌∷◌, IfOk, OnOk, map, length};
 ghost use Rattle.std.specs.List.{All};
 ghost use Rattle.ct_algebra.specs.Names.{name_with};
-ghost use Rattle.ct_mono.specs.Checked.{AnswersBy};
+ghost use Rattle.ct_checked.specs.Checked.{AnswersBy};
 ghost use Rattle.ct_ore.specs.Answers.{certificate_of, summand_of};
 ghost use Rattle.ct_ore.specs.Naming.{actions_of};
 ghost use Rattle.ct_run.specs.Checking as spec;

@@ -1,6 +1,6 @@
 // The rules of numbers, names and symbols in expressions.
 ghost use Rattle.std.specs.Prelude.{◌≡◌, ◌≤◌, IfOk, Some};
-ghost use Rattle.ct_mono.specs.Limits.{largest_norm};
+ghost use Rattle.ct_checked.specs.Limits.{largest_norm};
 ghost use Rattle.ct_ore.specs.Naming.{action_of};
 ghost use Rattle.ct_problem.specs.Cursor.{letter_of};
 ghost use Rattle.ct_problem.specs.Expressions as spec;

@@ -1,6 +1,6 @@
 // The rules of whole numbers.
 ghost use Rattle.std.specs.Prelude.{◌≡◌, ◌≤◌, ◌+◌, ◌-◌, ◌*◌, min, IfOk};
-ghost use Rattle.ct_mono.specs.Limits.{largest_norm};
+ghost use Rattle.ct_checked.specs.Limits.{largest_norm};
 ghost use Rattle.ct_problem.specs.Number as spec;
 ghost use Rattle.ct_problem.specs.Input.{Reads};
 

@@ -1,7 +1,7 @@
 use Rattle.std.proofs.Common.{rules, ℤ, ◌∙◌, ap, ap₂, sym, refl, IsTrue, subst, Ok}
 use Rattle.ct_algebra.specs.Substitution.{number}
 use Rattle.ct_algebra.specs.Operators.{no_operator}
-use Rattle.ct_mono.specs.Checked.{Answers, Checked}
+use Rattle.ct_checked.specs.Checked.{Answers, Checked}
 use Rattle.ct_expr.specs.declared.expr.Expr.{the_lemmas}
 use Rattle.ct_ore.specs.Naming.{actions_of}
 use Rattle.ct_expr.specs.ValueArithmetic.{Value, over_one}

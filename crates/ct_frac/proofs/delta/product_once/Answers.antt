@@ -1,7 +1,7 @@
 use Rattle.std.proofs.Common.{◌≡◌, ◌++◌, ◌∙◌, ap, sym, subst, rules}
 use Rattle.ct_algebra.specs.Polynomial.{polys}
 use Rattle.ct_algebra.specs.Substitution.{one_is}
-use Rattle.ct_mono.specs.Checked.{Answers, ◌>>=◌}
+use Rattle.ct_checked.specs.Checked.{Answers, ◌>>=◌}
 use Rattle.ct_frac.specs.Symbols.{checked_once}
 use Rattle.ct_frac.proofs.DerivedFractions.{once_both}
 use Rattle.ct_frac.proofs.delta.product_once.Goals as goal

@@ -2,7 +2,7 @@ use Rattle.std.proofs.Common.{◌≤◌, ◌∙◌, ap, subst, cond, arith}
 use Rattle.std.proofs.lemmas.Result.{IfOk-weaker}
 use Rattle.ct_algebra.specs.Monomial.{total}
 use Rattle.ct_algebra.specs.Polynomial.{polys}
-use Rattle.ct_mono.specs.Limits.{largest_degree}
+use Rattle.ct_checked.specs.Limits.{largest_degree}
 use Rattle.ct_poly.specs.Content.{common_monomial}
 use Rattle.ct_frac.specs.Written.{value}
 use Rattle.ct_frac.proofs.QuotientLaws.{parts_den, factors_are, quotient_of-parts, quotient_of-value}

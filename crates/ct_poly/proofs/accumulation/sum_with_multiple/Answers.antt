@@ -1,6 +1,6 @@
 use Rattle.std.proofs.Common.{◌≡◌, ◌∙◌, ap, sym, subst, ◌+◌, ◌≤◌, ◌++◌, [], ◌∷◌, pos, unsigned_abs, rules}
 use Rattle.ct_algebra.specs.Monomial.{◌·◌}
-use Rattle.ct_mono.specs.Limits.{largest_norm}
+use Rattle.ct_checked.specs.Limits.{largest_norm}
 use Rattle.ct_poly.specs.Accumulation.{EachAbove, Meets, count_above}
 use Rattle.ct_poly.specs.Terms.{entries, size_of}
 use Rattle.ct_poly.proofs.MergedMultiples.{IsSplit, times_term, accumulation_start, falling_left, meeting_small, product_pushed, product_gone, accumulation_ended}

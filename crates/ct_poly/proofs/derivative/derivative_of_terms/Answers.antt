@@ -2,7 +2,7 @@ use Rattle.std.proofs.Common.{◌≡◌, ◌≤◌, ◌++◌, ◌∙◌, ap, sym
 use Rattle.std.specs.Int.{w128}
 use Rattle.std.proofs.lemmas.Int.{to_z-of_z}
 use Rattle.ct_algebra.specs.Monomial.{total}
-use Rattle.ct_mono.specs.Limits.{largest_degree}
+use Rattle.ct_checked.specs.Limits.{largest_degree}
 use Rattle.ct_poly.specs.declared.term.Term.{Term}
 use Rattle.ct_poly.proofs.Termwise.{making_ended, making_more, head_low}
 use Rattle.ct_poly.proofs.Derivatives.{derivative, derivative_is, derivative_of_name}

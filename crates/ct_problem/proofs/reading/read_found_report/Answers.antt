@@ -4,7 +4,7 @@ use Rattle.ct_token.specs.Lexical.{Scanned, scan_of}
 use Rattle.ct_token.proofs.TokenPlaces.{scans_are_tokens}
 use Rattle.ct_problem.specs.ReadReport.{report_of}
 use Rattle.ct_problem.proofs.Cursors.{IsCursor-later}
-use Rattle.ct_mono.specs.Limits.{largest_norm}
+use Rattle.ct_checked.specs.Limits.{largest_norm}
 use Rattle.ct_problem.proofs.SpelledReportTexts.{report_spelled}
 use Rattle.ct_problem.proofs.TakenReportTexts.{gives_no_report}
 use Rattle.ct_problem.proofs.WellFormedReports.{report_formed}

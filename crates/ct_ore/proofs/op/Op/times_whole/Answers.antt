@@ -4,8 +4,8 @@ use Rattle.std.proofs.lemmas.Int.{to_z_pos}
 use Rattle.ct_algebra.specs.Monomial.{unit}
 use Rattle.ct_algebra.specs.Operators.{term_of}
 use Rattle.ct_algebra.specs.Substitution.{number}
-use Rattle.ct_mono.specs.Checked.{Answers}
-use Rattle.ct_mono.specs.Limits.{largest_degree}
+use Rattle.ct_checked.specs.Checked.{Answers}
+use Rattle.ct_checked.specs.Limits.{largest_degree}
 use Rattle.ct_ore.specs.Naming.{actions_of}
 use Rattle.ct_ore.specs.Measures.{checked_product, coefficient_degree, order_of}
 use Rattle.ct_ore.specs.Wholes.{checked_multiple, whole_operator}

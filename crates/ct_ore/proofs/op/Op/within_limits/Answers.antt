@@ -1,5 +1,5 @@
 use Rattle.std.proofs.Common.{◌≤◌, subst}
-use Rattle.ct_mono.specs.Limits.{most_terms, largest_norm}
+use Rattle.ct_checked.specs.Limits.{most_terms, largest_norm}
 use Rattle.ct_ore.specs.Measures.{term_count, term_norm}
 use Rattle.ct_ore.proofs.op.Op.within_limits.Goals as goal
 

@@ -1,5 +1,5 @@
 use Rattle.std.proofs.Common.{refl, sym, inl, inr}
-use Rattle.ct_mono.specs.Checked.{verdict_refuses}
+use Rattle.ct_checked.specs.Checked.{verdict_refuses}
 use Rattle.ct_poly.specs.Measures.{checked_times}
 use Rattle.ct_poly.proofs.Values.{kept, can_multiply, product_is_kept, product_answers, product_with_zero_answers}
 use Rattle.ct_poly.proofs.poly.Poly.mul.Goals as goal

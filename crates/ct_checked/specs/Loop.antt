@@ -6,20 +6,20 @@
 -- Law `run_keeps`: what each step keeps holds at the end, where nothing is found any more.
 -- Cited by the definitions of exact division, left reduction and elimination.
 use Rattle.std.specs.Prelude.{◌≡◌, ℕ, zero, suc, ◌<◌, Ok, Err, None, Some, refl}
-use Rattle.std.proofs.Common.{Option, sym, ◌∙◌, ap, arith, subst}
-use Rattle.ct_mono.specs.Checked.{Checked, ◌>>=◌}
+use Rattle.std.proofs.Common.{Option, Result, sym, ◌∙◌, ap, arith, subst}
+use Rattle.ct_checked.specs.Checked.{◌>>=◌}
 
-module _ {S H : Type 0} (rank : S → ℕ) (find : S → Option H) (step : H → S → Checked S) where
+module _ {S H E : Type 0} (rank : S → ℕ) (find : S → Option H) (step : H → S → Result S E) where
   -- one turn, and then f
-  abbrev pub turn : (S → Checked S) → S → Option H → Checked S
+  abbrev pub turn : (S → Result S E) → S → Option H → Result S E
   turn f s None = Ok s
   turn f s (Some h) = step h s >>= f
 
-  abbrev pub turns : ℕ → S → Checked S
+  abbrev pub turns : ℕ → S → Result S E
   turns zero s = Ok s
   turns (suc n) s = turn (turns n) s (find s)
 
-  unfoldable pub run : S → Checked S
+  unfoldable pub run : S → Result S E
   run s = turns (suc (rank s)) s
 
   abbrev pub Falls : Type 0
@@ -29,14 +29,14 @@ module _ {S H : Type 0} (rank : S → ℕ) (find : S → Option H) (step : H →
 
   module _ (falls : Falls) where
     turn_same :
-        (f g : S → Checked S) (s : S) (o : Option H) → find s ≡ o → ((t : S) → rank t < rank s → f t ≡ g t) →
+        (f g : S → Result S E) (s : S) (o : Option H) → find s ≡ o → ((t : S) → rank t < rank s → f t ≡ g t) →
         turn f s o ≡ turn g s o
     turn_same f g s None found same = refl
     turn_same f g s (Some h) found same = by (step h s) refl
       where
-        by : (r : Checked S) → step h s ≡ r → (r >>= f) ≡ (r >>= g)
+        by : (r : Result S E) → step h s ≡ r → (r >>= f) ≡ (r >>= g)
         by (Ok t) stepped = same t (falls s t h found stepped)
-        by (Err kind) stepped = refl
+        by (Err e) stepped = refl
 
     enough : (n m : ℕ) (s : S) → rank s < n → rank s < m → turns n s ≡ turns m s
     enough zero m s less also = absurd (omega arith)
@@ -71,10 +71,10 @@ module _ {S H : Type 0} (rank : S → ℕ) (find : S → Option H) (step : H →
         Later : Type 0
         Later = (u : S) → rank u < n → P u → turns n u ≡ Ok t → Kept t
 
-        further : (h : H) (r : Checked S) → find s ≡ Some h → step h s ≡ r → Later → (r >>= turns n) ≡ Ok t → Kept t
+        further : (h : H) (r : Result S E) → find s ≡ Some h → step h s ≡ r → Later → (r >>= turns n) ≡ Ok t → Kept t
         further h (Ok u) found stepped later ends =
             let falls_here = falls s u h found stepped in later u (omega arith) (keeps s u h found stepped holds) ends
-        further h (Err kind) found stepped later ends = cc
+        further h (Err e) found stepped later ends = cc
 
         by : (o : Option H) → find s ≡ o → Later → turn (turns n) s o ≡ Ok t → Kept t
         by None nothing later ends =

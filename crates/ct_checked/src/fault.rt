@@ -21,7 +21,7 @@ pub enum Fault {
 
 impl From<AllocError> for Fault {
     ghost use Rattle.std.specs.Prelude.{◌≡◌};
-    ghost use Rattle.ct_mono.specs.declared.fault.Fault.TheVariants.{NoMemory};
+    ghost use Rattle.ct_checked.specs.declared.fault.Fault.TheVariants.{NoMemory};
 
     ghost from_gives = { λ _ e. e ≡ NoMemory };
 

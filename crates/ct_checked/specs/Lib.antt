@@ -1,0 +1,4 @@
+pub mod Limits
+pub mod Checked
+pub mod Loop
+pub mod Traversal
