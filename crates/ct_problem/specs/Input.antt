@@ -12,8 +12,11 @@
 --     Reads c r new             what a function that reads may answer to a rule's outcome c: what was read, with the cursor
 --                               where the rule left it, or the rule's fault, or out of memory
 --     ReadsBy f c r new         the same of a result that is seen through f
+--     bad_of e                  the fault of a text that a fault of the code is, or none where memory ran out
 use Rattle.std.specs.Prelude.{◌≡◌, ℕ, ◌-◌, Bool, false, ◌||◌, if◌then◌else◌, ◌==◌, List, [], ◌∷◌, length, take, drop, min, Option, Some, None, Result, Ok, Err}
 use Rattle.std.specs.Str.{bytes_eq}
+use Rattle.ct_checked.specs.Checked as checked
+use Rattle.ct_checked.specs.Checked.{AnswersAs}
 use Rattle.ct_token.specs.declared.token.Symbol.{Symbol}
 use Rattle.ct_token.specs.declared.token.Symbol.TheVariants.{Word, Sign, Dots, LineEnd}
 use Rattle.ct_token.specs.declared.token.Token.{Token}
@@ -95,8 +98,7 @@ abbrev pub Parser : Type 0 → Type 0
 Parser A = Input → Outcome A
 
 abbrev pub and_then : {A B : Type 0} → Outcome A → (A → Parser B) → Outcome B
-and_then (Ok p) f = f p.0 p.1
-and_then (Err e) f = Err e
+and_then outcome f = checked.◌>>=◌ outcome (λ p. f p.0 p.1)
 
 infixl 10 ◌>>=◌
 abbrev pub ◌>>=◌ : {A B : Type 0} → Parser A → (A → Parser B) → Parser B
@@ -186,13 +188,12 @@ dots = λ i. dots_by (symbol i) i
 
 -- ---- what a function that reads ensures
 
-abbrev pub Reads : {A : Type 0} → Outcome A → Result A ReadFault → Input → Type 0
-Reads outcome (Ok a) new = outcome ≡ Ok (a, new)
-Reads outcome (Err (Bad e)) new = outcome ≡ Err e
-Reads outcome (Err NoMemory) new = Unit {0}
+abbrev pub bad_of : ReadFault → Option BadInput
+bad_of (Bad e) = Some e
+bad_of NoMemory = None
 
--- the same of a result that is seen through f
 abbrev pub ReadsBy : {A B : Type 0} → (B → A) → Outcome A → Result B ReadFault → Input → Type 0
-ReadsBy f outcome (Ok b) new = outcome ≡ Ok (f b, new)
-ReadsBy f outcome (Err (Bad e)) new = outcome ≡ Err e
-ReadsBy f outcome (Err NoMemory) new = Unit {0}
+ReadsBy f outcome r new = AnswersAs bad_of (λ b. (f b, new)) outcome r
+
+abbrev pub Reads : {A : Type 0} → Outcome A → Result A ReadFault → Input → Type 0
+Reads outcome r new = ReadsBy (λ a. a) outcome r new

@@ -15,18 +15,18 @@ use Rattle.ct_token.specs.Lexical.{Scanned, scan_of}
 use Rattle.ct_token.specs.declared.token.Symbol.{Symbol}
 use Rattle.ct_token.specs.declared.token.Symbol.TheVariants.{LineEnd}
 use Rattle.ct_token.specs.declared.token.Token.{Token}
+use Rattle.ct_checked.specs.Checked.{AnswersAs}
 use Rattle.ct_ore.specs.Naming.{Naming}
 use Rattle.ct_expr.specs.declared.expr.Expr.{Expr}
 use Rattle.ct_problem.specs.declared.fault.BadInput.{BadInput}
 use Rattle.ct_problem.specs.declared.fault.BadKind.TheVariants.{TooLong, Missing, TrailingText}
 use Rattle.ct_problem.specs.declared.fault.ReadFault.{ReadFault}
-use Rattle.ct_problem.specs.declared.fault.ReadFault.TheVariants.{Bad, NoMemory}
 use Rattle.ct_problem.specs.declared.problem.Gens.{Gens}
 use Rattle.ct_problem.specs.declared.problem.Gens.TheVariants as gens
 use Rattle.ct_problem.specs.declared.problem.LetForm.{LetForm}
 use Rattle.ct_problem.specs.declared.problem.Problem.{Problem}
 use Rattle.ct_problem.specs.declared.problem.Range.{Range}
-use Rattle.ct_problem.specs.Input.{Input, Outcome, Parser, ◌>>=◌, ◌>>◌, pure, look, fault, syntax, skip, symbol, sees_word, fresh_line}
+use Rattle.ct_problem.specs.Input.{Input, Outcome, Parser, ◌>>=◌, ◌>>◌, pure, look, fault, syntax, skip, symbol, sees_word, fresh_line, bad_of}
 use Rattle.ct_problem.specs.Declarations.{declarations}
 use Rattle.ct_problem.specs.DenLines.{Dens, den_lines}
 use Rattle.ct_problem.specs.LetLines.{Definition, with_definitions, let_lines}
@@ -183,6 +183,4 @@ reading_of p = record {
 }
 
 abbrev pub Gives : Result (Reading × ℕ) BadInput → Result Problem ReadFault → Type 0
-Gives outcome (Ok p) = outcome ≡ Ok (reading_of p, p.end)
-Gives outcome (Err (Bad e)) = outcome ≡ Err e
-Gives outcome (Err NoMemory) = Unit {0}
+Gives outcome r = AnswersAs bad_of (λ p. (reading_of p, p.end)) outcome r
