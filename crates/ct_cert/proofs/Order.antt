@@ -15,7 +15,8 @@ use Rattle.ct_ore.specs.Answers.{summand_of}
 use Rattle.ct_cert.specs.Certificates.{IsSmall}
 use Rattle.ct_cert.specs.Arithmetic.{checked_part}
 use Rattle.ct_cert.specs.Freedom.{operator_lacks}
-use Rattle.ct_cert.specs.Testing.{Tested, ◌>>=◌, Ending, test_of}
+use Rattle.ct_checked.specs.Checked.{◌>>=◌}
+use Rattle.ct_cert.specs.Testing.{Tested, Ending, test_of}
 use Rattle.ct_cert.specs.Tests.{found_test, telescoper_test, scale_test, denominator_test, part_test, for_each, identity_test, tests}
 use Rattle.ct_cert.proofs.Deciding.{decided, polynomial_zero_decides, operator_zero_decides}
 

@@ -1,6 +1,6 @@
--- What it means that all tests pass: the certificate certifies. Main lemma `passing_certifies`, cited by `check_found`. Each
+-- What it means that all tests pass: the certificate certifies. Main lemmas `passing_certifies`, and `answer_certifies`, cited by `check_found`. Each
 -- test's truth value decides its fact (`Deciding`, `Values`, `FreedomSteps`), and the tests pass only where all are true.
-use Rattle.std.specs.Prelude.{◌≡◌, ◌≢◌, refl, Ok, Err, Bool, true, false, ◌&&◌, not, List, [], ◌∷◌, length, map}
+use Rattle.std.specs.Prelude.{◌≡◌, ◌≢◌, refl, Result, Ok, Err, OnOk, Bool, true, false, ◌&&◌, not, List, [], ◌∷◌, length, map}
 use Rattle.std.specs.List.{All}
 use Rattle.std.specs.Bool.{Decides}
 use Rattle.std.proofs.lemmas.List.Elements.{All-nil, All-cons}
@@ -13,12 +13,13 @@ use Rattle.ct_algebra.specs.Actions.{Action, Still}
 use Rattle.ct_algebra.specs.Operators.{Operator, operator_group, no_operator}
 use Rattle.ct_algebra.specs.FreeOf.{EachName, IsWithout, IsFreeOfAll, OperatorIsFreeOf}
 use Rattle.ct_algebra.specs.Certificate.{Summand, Certificate, Certifies}
-use Rattle.ct_checked.specs.Checked.{Checked}
 use Rattle.ct_cert.specs.declared.place.Place.{Place}
+use Rattle.ct_cert.specs.declared.place.Stop.{Stop}
 use Rattle.ct_cert.specs.declared.place.Support.{Support}
 use Rattle.ct_cert.specs.Arithmetic.{checked_part, checked_identity}
 use Rattle.ct_cert.specs.Freedom.{each_passes, term_lacks, operator_lacks}
-use Rattle.ct_cert.specs.Testing.{Tested, ◌>>=◌, test_of}
+use Rattle.ct_checked.specs.Checked.{Checked, ◌>>=◌}
+use Rattle.ct_cert.specs.Testing.{Tested, test_of, AnswersTest}
 use Rattle.ct_cert.specs.Tests.{found_test, telescoper_test, scale_test, denominator_test, part_test, for_each, identity_test, tests}
 use Rattle.ct_cert.proofs.Deciding.{polynomial_zero_decides, operator_zero_decides}
 use Rattle.ct_cert.proofs.FreedomSteps.{polynomial_lacks_decides, both_pass, first_pass, second_pass}
@@ -106,3 +107,9 @@ module _ (a : Name → Action) (summed : List Name) (generators : List Operator)
           identity = (identity_value a generators c true (passed_test _ (checked_identity a generators c) u five.1)).0 refl;
         };
       }
+
+  pub answer_certifies :
+      (r : Result (Unit {0}) Stop) → AnswersTest (tests a summed generators due found c) r → map (λ s. s.name) c.summands ≡ summed →
+      EachName (λ j. a j ≢ Still) summed → length c.cofactors ≡ length generators → OnOk r (Certifies a summed generators c)
+  answer_certifies (Ok u) passes names acts fit = passing_certifies u passes names acts fit
+  answer_certifies (Err stop) ends names acts fit = tt

@@ -1,6 +1,6 @@
--- What it means that a test fails: what stands at its place is false. Main lemma `failing_refutes`, cited by `check_found`.
+-- What it means that a test fails: what stands at its place is false. Main lemmas `failing_refutes`, and `answer_refutes`, cited by `check_found`.
 -- The first test that ends the others made its ending itself, with its own place and a truth value that is false.
-use Rattle.std.specs.Prelude.{◌≡◌, ◌≢◌, refl, ℕ, suc, Ok, Err, Bool, true, false, ◌&&◌, not, List, [], ◌∷◌, ◌⊎◌}
+use Rattle.std.specs.Prelude.{◌≡◌, ◌≢◌, refl, ℕ, suc, Result, Ok, Err, Bool, true, false, ◌&&◌, not, List, [], ◌∷◌, ◌⊎◌}
 use Rattle.std.specs.List.{Contains}
 use Rattle.std.specs.Bool.{Decides}
 use Rattle.std.proofs.Common.{sym, ap, subst, inl, inr, arith}
@@ -11,13 +11,15 @@ use Rattle.ct_algebra.specs.Polynomial.{polys, times}
 use Rattle.ct_algebra.specs.Actions.{Action}
 use Rattle.ct_algebra.specs.Operators.{Operator, operator_group, no_operator}
 use Rattle.ct_algebra.specs.Certificate.{Summand, Certificate, difference_denominator}
-use Rattle.ct_checked.specs.Checked.{Checked}
 use Rattle.ct_cert.specs.declared.place.Place.{Place}
 use Rattle.ct_cert.specs.declared.place.Place.TheVariants as places
+use Rattle.ct_cert.specs.declared.place.Stop.{Stop}
+use Rattle.ct_cert.specs.declared.place.Stop.TheVariants.{No, Overflow, NoMemory}
 use Rattle.ct_cert.specs.declared.place.Support.{Support}
 use Rattle.ct_cert.specs.Arithmetic.{checked_part, checked_identity}
 use Rattle.ct_cert.specs.Freedom.{operator_lacks}
-use Rattle.ct_cert.specs.Testing.{Tested, ◌>>=◌, Ending, Fails, test_of}
+use Rattle.ct_checked.specs.Checked.{Checked, ◌>>=◌}
+use Rattle.ct_cert.specs.Testing.{Tested, Ending, Fails, test_of, AnswersTest, IfNo}
 use Rattle.ct_cert.specs.Tests.{same_support, found_test, telescoper_test, scale_test, denominator_test, part_test, for_each, identity_test, tests, EachNamed, Holds}
 use Rattle.ct_cert.proofs.Deciding.{polynomial_zero_decides, operator_zero_decides}
 use Rattle.ct_cert.proofs.FreedomSteps.{both_pass}
@@ -146,3 +148,9 @@ module _ (a : Name → Action) (summed : List Name) (generators : List Operator)
           let fails = failed_test p places.Found (Ok (same_support due found)) ended in
           at p places.Found fails.here (found_refuted (value_of _ fails.untrue))
       first (inr ended) = second (either_failed (telescoper_test summed c.telescoper) (from_scale a summed generators due found c) (Fails p) ended)
+
+  pub answer_refutes : (r : Result (Unit {0}) Stop) → AnswersTest (tests a summed generators due found c) r → IfNo r (λ p. HoldsAt p → ⊥)
+  answer_refutes (Err (No p)) fails = failing_refutes p fails
+  answer_refutes (Err (Overflow p k)) ends = tt
+  answer_refutes (Err NoMemory) ends = tt
+  answer_refutes (Ok u) passes = tt

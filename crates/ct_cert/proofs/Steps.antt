@@ -1,6 +1,5 @@
 -- Loops over the parts and over the cofactors, one element further: what is left answers what was asked. Main lemmas
--- `next_difference`, `next_test`, `ending_test`, and `stopped` where a test ends them. Cited by the loops of the arithmetic
--- and of the tests.
+-- `next_difference`, `next_test`, and `ending_test` where a test ends them. Cited by the loops of the arithmetic and of the tests.
 use Rattle.std.specs.Prelude.{◌≡◌, Ok, Err, List, ◌∷◌, map}
 use Rattle.std.proofs.Common.{sym, ◌∙◌, ap}
 use Rattle.ct_algebra.specs.Names.{Name}
@@ -9,12 +8,9 @@ use Rattle.ct_algebra.specs.Operators.{Operator}
 use Rattle.ct_algebra.specs.Certificate.{Summand}
 use Rattle.ct_checked.specs.Checked.{Checked, ◌>>=◌}
 use Rattle.ct_ore.specs.declared.answer.Part.{Part}
-use Rattle.ct_cert.specs.declared.place.Stop.{Stop}
-use Rattle.ct_cert.specs.declared.place.Stop.TheVariants as stops
-use Rattle.ct_cert.specs.declared.place.CheckFault.TheVariants as faults
 use Rattle.ct_ore.specs.Answers.{summand_of}
 use Rattle.ct_cert.specs.Arithmetic.{with_difference, checked_differences}
-use Rattle.ct_cert.specs.Testing as testing
+use Rattle.ct_cert.specs.Testing.{Tested, Ending}
 use Rattle.ct_cert.specs.Tests.{for_each}
 
 module _ (a : Name → Action) {asked : Checked Operator} (sum more : Operator) where
@@ -25,25 +21,17 @@ module _ (a : Name → Action) {asked : Checked Operator} (sum more : Operator) 
       sym (ap (λ rest. checked_differences a sum (map summand_of rest)) whole ∙ ap (λ r. r >>= (λ more. checked_differences a more (map summand_of ps))) value)
       ∙ left
 
-module _ (test : Summand → testing.Tested (Unit {0})) {asked : testing.Tested (Unit {0})} (p : Part) (ps rest : List Part) where
+module _ (test : Summand → Tested (Unit {0})) {asked : Tested (Unit {0})} (p : Part) (ps rest : List Part) where
   pub next_test :
       (u : Unit {0}) → rest ≡ p ∷ ps → test (summand_of p) ≡ Ok u →
       for_each test (map summand_of rest) ≡ asked → for_each test (map summand_of ps) ≡ asked
   next_test u whole passed left =
-      sym (ap (λ rest. for_each test (map summand_of rest)) whole ∙ ap (λ r. testing.◌>>=◌ r (λ _. for_each test (map summand_of ps))) passed)
+      sym (ap (λ rest. for_each test (map summand_of rest)) whole ∙ ap (λ r. r >>= (λ _. for_each test (map summand_of ps))) passed)
       ∙ left
 
   pub ending_test :
-      (e : testing.Ending) → rest ≡ p ∷ ps → test (summand_of p) ≡ Err e →
+      (e : Ending) → rest ≡ p ∷ ps → test (summand_of p) ≡ Err e →
       for_each test (map summand_of rest) ≡ asked → asked ≡ Err e
   ending_test e whole ended left =
       sym left ∙ ap (λ rest. for_each test (map summand_of rest)) whole
-      ∙ ap (λ r. testing.◌>>=◌ r (λ _. for_each test (map summand_of ps))) ended
-
--- what a call answers that stops where one of its tests does
-pub stopped :
-    (t whole : testing.Tested (Unit {0})) (stop : Stop) → testing.AnswersTest t (Err stop) →
-    ((e : testing.Ending) → t ≡ Err e → whole ≡ Err e) → testing.AnswersTest whole (Err stop)
-stopped t whole (stops.No p) ended onward = onward (testing.Fails p) ended
-stopped t whole (stops.Fault (faults.Overflow p k)) ended onward = onward (testing.Overflows p k) ended
-stopped t whole (stops.Fault faults.NoMemory) ended onward = tt
+      ∙ ap (λ r. r >>= (λ _. for_each test (map summand_of ps))) ended

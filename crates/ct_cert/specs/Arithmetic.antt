@@ -7,7 +7,7 @@
 --     checked_part h s                  whether H·N is h, N first
 --     checked_identity                  whether h·P is the sum, from zero, of all H·E and then of all cofactor∘generator
 -- Laws in proofs/: the values are those of ct_algebra's `Certificate` page, so the truth values are its equations.
-use Rattle.std.specs.Prelude.{Bool, Ok, List, [], ◌∷◌}
+use Rattle.std.specs.Prelude.{Bool, Ok, List}
 use Rattle.ct_algebra.specs.Monomial.{unit}
 use Rattle.ct_algebra.specs.Names.{Name, symbol}
 use Rattle.ct_algebra.specs.Polynomial.{Polynomial, polys}
@@ -15,6 +15,7 @@ use Rattle.ct_algebra.specs.Actions.{Action, by_action}
 use Rattle.ct_algebra.specs.Operators.{Operator, operator_group, no_operator, term_of}
 use Rattle.ct_algebra.specs.Certificate.{Summand, Certificate}
 use Rattle.ct_checked.specs.Checked.{Checked, ◌>>=◌}
+use Rattle.ct_checked.specs.Traversal.{checked_fold}
 use Rattle.ct_poly.specs.Measures.{checked_times, checked_shifted, checked_derived}
 use Rattle.ct_ore.specs.Measures.{checked_sum, checked_difference, checked_product, checked_combination}
 
@@ -59,10 +60,7 @@ module _ (a : Name → Action) where
     checked_sum sum product
 
   abbrev pub checked_differences : Operator → List Summand → Checked Operator
-  checked_differences sum [] = Ok sum
-  checked_differences sum (s ∷ ss) = do
-    more ← with_difference sum s
-    checked_differences more ss
+  checked_differences sum ss = checked_fold with_difference sum ss
 
   unfoldable pub checked_part : Polynomial → Summand → Checked Bool
   checked_part h s = do

@@ -7,7 +7,7 @@
 --     EachNamed j c P                  P holds of each summand whose name has the number j
 --     Holds                            what the test of a place asks, as a fact
 -- Cited by `check_found`.
-use Rattle.std.specs.Prelude.{◌≡◌, ◌≢◌, ℕ, Bool, ◌&&◌, not, eqb, Ok, List, [], ◌∷◌}
+use Rattle.std.specs.Prelude.{◌≡◌, ◌≢◌, ℕ, Bool, ◌&&◌, not, eqb, Ok, List}
 use Rattle.std.specs.List.{All}
 use Rattle.ct_algebra.specs.Names.{Name, place}
 use Rattle.ct_algebra.specs.Polynomial.{Polynomial, polys, times}
@@ -19,7 +19,9 @@ use Rattle.ct_cert.specs.declared.place.Place.TheVariants.{Found, Telescoper, Sc
 use Rattle.ct_cert.specs.declared.place.Place.TheVariants as places
 use Rattle.ct_cert.specs.declared.place.Place.{Place}
 use Rattle.ct_cert.specs.declared.place.Support.{Support}
-use Rattle.ct_cert.specs.Testing.{Tested, ◌>>=◌, test_of}
+use Rattle.ct_checked.specs.Checked.{◌>>=◌}
+use Rattle.ct_checked.specs.Traversal.{checked_fold}
+use Rattle.ct_cert.specs.Testing.{Tested, test_of}
 use Rattle.ct_cert.specs.Arithmetic.{checked_part, checked_identity}
 use Rattle.ct_cert.specs.Freedom.{operator_lacks}
 
@@ -42,10 +44,7 @@ denominator_test s = test_of (Denominator (place s.name)) (Ok (not (polys.is_zer
 
 -- a test for each summand in order
 abbrev pub for_each : (Summand → Tested (Unit {0})) → List Summand → Tested (Unit {0})
-for_each test [] = Ok tt
-for_each test (s ∷ ss) = do
-  _ ← test s
-  for_each test ss
+for_each test ss = checked_fold (λ _ s. test s) tt ss
 
 -- a fact about each summand whose name has the number j
 abbrev pub EachNamed : ℕ → Certificate → (Summand → Type 0) → Type 0

@@ -1,13 +1,13 @@
 // The check of a report that found a telescoper.
-ghost use Rattle.std.specs.Prelude.{◌≡◌};
+ghost use Rattle.std.specs.Prelude.{◌≡◌, OnOk};
 ghost use Rattle.ct_algebra.specs.Certificate.{Certifies};
 ghost use Rattle.ct_ore.specs.Naming.{actions_of, summed_of};
 ghost use Rattle.ct_ore.specs.Answers.{certificate_of};
 ghost use Rattle.ct_cert.specs.Certificates.{IsAnswerFor};
-ghost use Rattle.ct_cert.specs.Testing.{AnswersVerdict, OnYes, IfNo};
+ghost use Rattle.ct_cert.specs.Testing.{AnswersTest, IfNo};
 ghost use Rattle.ct_cert.specs.Tests.{tests, Holds};
 
-use crate::place::{CheckFault, Stop, Support, Verdict};
+use crate::place::{Stop, Support};
 use crate::tests_in_order::all_tests;
 use ct_ore::{Algebra, Answer, Op};
 use std::alloc::Global;
@@ -20,15 +20,11 @@ pub fn check_found(
     due: Support,
     found: Support,
     answer: &Answer,
-) -> Result<Verdict, CheckFault>
+) -> Result<(), Stop>
     requires { IsAnswerFor algebra.now generators.now answer.now }
-    ensures answers { AnswersVerdict (tests (actions_of algebra.now) (summed_of algebra.now) generators.now due found (certificate_of answer.now)) result }
-    ensures certified { OnYes result (Certifies (actions_of algebra.now) (summed_of algebra.now) generators.now (certificate_of answer.now)) }
+    ensures answers { AnswersTest (tests (actions_of algebra.now) (summed_of algebra.now) generators.now due found (certificate_of answer.now)) result }
+    ensures certified { OnOk result (Certifies (actions_of algebra.now) (summed_of algebra.now) generators.now (certificate_of answer.now)) }
     ensures refuted { IfNo result (λ p. ¬ Holds (actions_of algebra.now) (summed_of algebra.now) generators.now due found (certificate_of answer.now) p) }
 {
-    match all_tests(alloc, algebra, generators, due, found, answer) {
-        Ok(()) => Ok(Verdict::Yes),
-        Err(Stop::No(place)) => Ok(Verdict::No(place)),
-        Err(Stop::Fault(fault)) => Err(fault),
-    }
+    all_tests(alloc, algebra, generators, due, found, answer)
 }

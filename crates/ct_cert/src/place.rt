@@ -1,4 +1,4 @@
-// The places of the tests, and what the check answers.
+// The places of the tests, and why a report doesn't pass.
 
 use ct_mono::Kind;
 
@@ -13,16 +13,10 @@ pub enum Place {
     Identity,
 }
 
-/// Whether the report passes, or the first place that fails.
+/// Why a report doesn't pass: the first place that fails or overflows, or out of memory.
 #[derive(Clone, Copy)]
-pub enum Verdict {
-    Yes,
+pub enum Stop {
     No(Place),
-}
-
-/// Why the check has no answer.
-#[derive(Clone, Copy)]
-pub enum CheckFault {
     Overflow(Place, Kind),
     NoMemory,
 }
@@ -33,11 +27,4 @@ pub struct Support {
     pub index: u16,
     pub order: u16,
     pub degree: u16,
-}
-
-// Why the tests end before the last one passes.
-#[derive(Clone, Copy)]
-pub(crate) enum Stop {
-    No(Place),
-    Fault(CheckFault),
 }

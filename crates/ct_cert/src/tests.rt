@@ -5,7 +5,7 @@ ghost use Rattle.ct_algebra.specs.Actions.{Still};
 ghost use Rattle.ct_ore.specs.Naming.{actions_of, summed_of};
 ghost use Rattle.ct_cert.specs.Certificates.{IsAnswerFor};
 
-use crate::{Answer, CheckFault, Part, Place, Support, Verdict, check_found};
+use crate::{Answer, Part, Place, Stop, Support, check_found};
 use ct_mono::{Fault, NoMemory};
 use ct_ore::{Action, Algebra, NameInfo, Op, Role};
 use ct_poly::Poly;
@@ -70,9 +70,9 @@ fn single(alloc: Global, part: Part) -> Result<Vec<Part>, NoMemory>
 }
 
 // S[n] - 2 = 1 * (S[n] - 2) + 0 * (S[k] - 1), with this scale, part and first cofactor
-fn verdict(alloc: Global, scale: u8, part: u8, cofactor: u8) -> Result<Verdict, CheckFault> {
+fn verdict(alloc: Global, scale: u8, part: u8, cofactor: u8) -> Result<(), Stop> {
     let (Ok(algebra), Ok(generators)) = (shifts(alloc), thin_generators(alloc)) else {
-        return Err(CheckFault::NoMemory);
+        return Err(Stop::NoMemory);
     };
     let Ok(answer) = thin_answer(
         alloc,
@@ -80,7 +80,7 @@ fn verdict(alloc: Global, scale: u8, part: u8, cofactor: u8) -> Result<Verdict, 
         generators.as_slice(),
         [scale, part, cofactor],
     ) else {
-        return Err(CheckFault::NoMemory);
+        return Err(Stop::NoMemory);
     };
     check_found(alloc, &algebra, generators.as_slice(), DUE, DUE, &answer)
 }
@@ -126,17 +126,17 @@ fn thin_answer(
 #[test]
 fn a_certificate_by_hand_is_accepted(rt: HostRuntime) -> Result<(), Fail> {
     let answer = verdict(rt.alloc(), 1, 1, 1);
-    assert!(rt; matches!(answer, Ok(Verdict::Yes)));
+    assert!(rt; matches!(answer, Ok(())));
     Ok(())
 }
 
 #[test]
 fn the_first_test_that_fails_is_named(rt: HostRuntime) -> Result<(), Fail> {
     let answer = verdict(rt.alloc(), 0, 0, 0);
-    assert!(rt; matches!(answer, Ok(Verdict::No(Place::Scale))));
+    assert!(rt; matches!(answer, Err(Stop::No(Place::Scale))));
     let answer = verdict(rt.alloc(), 1, 2, 2);
-    assert!(rt; matches!(answer, Ok(Verdict::No(Place::Part(1)))));
+    assert!(rt; matches!(answer, Err(Stop::No(Place::Part(1)))));
     let answer = verdict(rt.alloc(), 1, 1, 2);
-    assert!(rt; matches!(answer, Ok(Verdict::No(Place::Identity))));
+    assert!(rt; matches!(answer, Err(Stop::No(Place::Identity))));
     Ok(())
 }

@@ -11,7 +11,7 @@ ghost use Rattle.ct_cert.specs.Tests.{found_test, telescoper_test, scale_test, d
 
 use crate::arithmetic::{differences, multiple, part_holds, same_op, with_products};
 use crate::freedom::is_free;
-use crate::place::{CheckFault, Place, Stop, Support};
+use crate::place::{Place, Stop, Support};
 use ct_mono::Fault;
 use ct_ore::{Algebra, Answer, Op, Part};
 use ct_poly::Poly;
@@ -113,7 +113,7 @@ fn checked_ending(place: Place, holds: Result<bool, Fault>) -> Result<(), Stop>
 {
     match holds {
         Ok(holds) => ending(place, holds),
-        Err(Fault::Overflow(kind)) => Err(Stop::Fault(CheckFault::Overflow(place, kind))),
-        Err(Fault::NoMemory) => Err(Stop::Fault(CheckFault::NoMemory)),
+        Err(Fault::Overflow(kind)) => Err(Stop::Overflow(place, kind)),
+        Err(Fault::NoMemory) => Err(Stop::NoMemory),
     }
 }

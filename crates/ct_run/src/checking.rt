@@ -12,7 +12,7 @@ use crate::lines::{no, not_yet, overflow_in_report, overflow_in_setup, overflow_
 use crate::output::Output;
 use crate::setup::{checked_setup, has_lets, is_used, listed};
 use crate::values::certificate;
-use ct_cert::{CheckFault, Support, Verdict, check_found};
+use ct_cert::{Stop, Support, check_found};
 use ct_io::NoMemory;
 use ct_mono::Fault;
 use ct_ore::{Answer, Op};
@@ -108,10 +108,10 @@ fn line_of_tests(
     let due = due(problem);
     let found = found(report);
     match check_found(alloc, algebra, generators, due, found, answer) {
-        Ok(Verdict::Yes) => yes(alloc),
-        Ok(Verdict::No(place)) => no(alloc, algebra, place),
-        Err(CheckFault::Overflow(place, kind)) => overflow_in_test(alloc, algebra, place, kind),
-        Err(CheckFault::NoMemory) => Err(NoMemory),
+        Ok(()) => yes(alloc),
+        Err(Stop::No(place)) => no(alloc, algebra, place),
+        Err(Stop::Overflow(place, kind)) => overflow_in_test(alloc, algebra, place, kind),
+        Err(Stop::NoMemory) => Err(NoMemory),
     }
 }
 

@@ -2,14 +2,15 @@ use Rattle.std.proofs.Common.{subst, sym, ◌∙◌, Ok, not}
 use Rattle.std.specs.List.{All}
 use Rattle.std.specs.Prelude.{map}
 use Rattle.std.proofs.lemmas.List.Elements.{All-head, All-rest}
+use Rattle.std.proofs.lemmas.Option.{IfSome_then}
 use Rattle.std.proofs.lemmas.Result.{err_from_is_err_and}
 use Rattle.ct_cert.specs.declared.place.Place.TheVariants.{Denominator}
 use Rattle.ct_ore.specs.Answers.{summand_of}
 use Rattle.ct_cert.specs.Certificates.{IsSmall}
-use Rattle.ct_cert.specs.Testing.{test_of}
+use Rattle.ct_cert.specs.Testing.{ending_of}
 use Rattle.ct_cert.specs.Tests.{denominator_test, for_each}
 use Rattle.ct_cert.proofs.Order.{denominator_made}
-use Rattle.ct_cert.proofs.Steps.{next_test, ending_test, stopped}
+use Rattle.ct_cert.proofs.Steps.{next_test, ending_test}
 use Rattle.ct_cert.proofs.tests_in_order.denominators.Goals as goal
 
 pub returns-in_err-ending : goal.returns-in_err-ending
@@ -21,8 +22,7 @@ returns-in_err-ending c =
     let made = denominator_made p c.is_zero.result small c.is_zero.ensures in
     let exit = err_from_is_err_and c.from_residual.result c.from_residual.ensures.1 in
     rw (exit.1, exit.2)
-    (stopped (test_of (Denominator p.name) (Ok (not c.is_zero.result))) (for_each denominator_test (map summand_of c.args.parts.now))
-    c.in_err-ending.field-0.0 c.in_err-ending.ensures
+    (IfSome_then (ending_of c.in_err-ending.field-0.0) c.in_err-ending.ensures
     (λ e ended. ending_test denominator_test p ps c.loop-part.rest.now e whole (sym made ∙ ended) c.loop-part.invariant.same))
 
 pub loop-part-preserved : goal.loop-part-preserved

@@ -2,16 +2,17 @@ use Rattle.std.proofs.Common.{subst, sym, ◌∙◌, arith}
 use Rattle.std.specs.List.{All}
 use Rattle.std.specs.Prelude.{map}
 use Rattle.std.proofs.lemmas.List.Elements.{All-head, All-rest}
+use Rattle.std.proofs.lemmas.Option.{IfSome_then}
 use Rattle.std.proofs.lemmas.Result.{err_from_is_err_and}
 use Rattle.ct_ore.specs.Naming.{actions_of}
 use Rattle.ct_cert.specs.declared.place.Place.TheVariants.{Part}
 use Rattle.ct_ore.specs.Answers.{summand_of}
 use Rattle.ct_cert.specs.Certificates.{IsSmall, IsNamed}
 use Rattle.ct_cert.specs.Arithmetic.{checked_part}
-use Rattle.ct_cert.specs.Testing.{test_of}
+use Rattle.ct_cert.specs.Testing.{ending_of}
 use Rattle.ct_cert.specs.Tests.{part_test, for_each}
 use Rattle.ct_cert.proofs.Order.{part_made}
-use Rattle.ct_cert.proofs.Steps.{next_test, ending_test, stopped}
+use Rattle.ct_cert.proofs.Steps.{next_test, ending_test}
 use Rattle.ct_cert.proofs.tests_in_order.factors.Goals as goal
 
 pub returns-in_err-checked_ending : goal.returns-in_err-checked_ending
@@ -27,8 +28,7 @@ returns-in_err-checked_ending c =
     let made = part_made a scale p small in
     let exit = err_from_is_err_and c.from_residual.result c.from_residual.ensures.1 in
     rw (exit.1, exit.2)
-    (stopped (test_of (Part p.name) holds) (for_each (part_test a scale) (map summand_of c.args.parts.now))
-    c.in_err-checked_ending.field-0.0 (c.in_err-checked_ending.ensures holds c.part_holds.ensures)
+    (IfSome_then (ending_of c.in_err-checked_ending.field-0.0) (c.in_err-checked_ending.ensures holds c.part_holds.ensures)
     (λ e ended. ending_test (part_test a scale) p ps c.loop-part.rest.now e whole (sym made ∙ ended) c.loop-part.invariant.same))
 
 pub loop-part-preserved : goal.loop-part-preserved
