@@ -1,6 +1,7 @@
 -- Working through a list from the front, as loops do, and what comes of it.
--- Main lemmas: `each_behind`, cited where a loop begins, `each_length`, and `fold_means`, by which the definitions above are understood.
-use Rattle.std.proofs.Common.{◌≡◌, refl, sym, ap, ◌∙◌, arith, ℕ, ◌+◌, List, [], ◌∷◌, ◌++◌, length, length-append, append_assoc, append-nil, subst, Result, Ok, Err}
+-- Main lemmas: `each_behind`, cited where a loop begins; `each_means`, `each_length` and `fold_means`, cited where it is told what the
+-- values are.
+use Rattle.std.proofs.Common.{◌≡◌, refl, sym, ap, ◌∙◌, arith, ℕ, suc, ◌+◌, List, [], ◌∷◌, ◌++◌, length, length-append, append_assoc, append-nil, subst, Result, Ok, Err}
 use Rattle.ct_checked.specs.Checked.{◌>>=◌, both_fit}
 use Rattle.ct_checked.specs.Traversal.{checked_fold, checked_each_from}
 
@@ -51,12 +52,19 @@ module _ {X Y E : Type 0} (f : ℕ → X → Result Y E) where
       whole (Ok ys) = refl
       whole (Err e) = refl
 
--- a value for each element
-pub each_length :
-    {X Y E : Type 0} (n : ℕ) (f : ℕ → X → Result Y E) (xs : List X) (ys : List Y) → checked_each_from n f xs ≡ Ok ys → length ys ≡ length xs
-each_length n f [] ys passes = let same : [] ≡ ys = cc in sym (ap length same)
-each_length n f (x ∷ xs) ys passes =
-    let one = both_fit (f n x) (λ y. checked_each_from (n + 1) f xs >>= (λ zs. Ok (y ∷ zs))) ys passes in
-    let more = both_fit (checked_each_from (n + 1) f xs) (λ zs. Ok (one.value ∷ zs)) ys one.rest in
-    let same : one.value ∷ more.value ≡ ys = cc in
-    omega (arith, ap length same, each_length (n + 1) f xs more.value more.first)
+module _ {X Y E : Type 0} (f : ℕ → X → Result Y E) where
+  -- a fact of elements and their values, from the last on to the first
+  pub each_means :
+      (P : List X → List Y → Type 0) → P [] [] →
+      ((n : ℕ) (x : X) (y : Y) (xs : List X) (ys : List Y) → f n x ≡ Ok y → P xs ys → P (x ∷ xs) (y ∷ ys)) →
+      (n : ℕ) (xs : List X) (ys : List Y) → checked_each_from n f xs ≡ Ok ys → P xs ys
+  each_means P none more n [] ys passes = let same : [] ≡ ys = cc in subst (P []) same none
+  each_means P none more n (x ∷ xs) ys passes =
+      let one = both_fit (f n x) (λ y. checked_each_from (n + 1) f xs >>= (λ zs. Ok (y ∷ zs))) ys passes in
+      let rest = both_fit (checked_each_from (n + 1) f xs) (λ zs. Ok (one.value ∷ zs)) ys one.rest in
+      let same : one.value ∷ rest.value ≡ ys = cc in
+      subst (P (x ∷ xs)) same (more n x one.value xs rest.value one.first (each_means P none more (n + 1) xs rest.value rest.first))
+
+  -- a value for each element
+  pub each_length : (n : ℕ) (xs : List X) (ys : List Y) → checked_each_from n f xs ≡ Ok ys → length ys ≡ length xs
+  each_length = each_means (λ xs ys. length ys ≡ length xs) refl (λ _ _ _ _ _ _ same. ap suc same)

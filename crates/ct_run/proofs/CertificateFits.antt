@@ -5,6 +5,8 @@ use Rattle.ct_algebra.specs.Names.{Name}
 use Rattle.ct_algebra.specs.Operators.{Operator}
 use Rattle.ct_algebra.specs.Polynomial.{Polynomial}
 use Rattle.ct_algebra.specs.Certificate.{Certificate}
+use Rattle.ct_checked.specs.Checked.{both_fit}
+use Rattle.ct_checked.proofs.Traversals.{each_length}
 use Rattle.ct_ore.specs.Naming.{Naming, actions_of, summed_of}
 use Rattle.ct_problem.specs.declared.report.Report.{Report}
 use Rattle.ct_problem.specs.ReadProblem.{Reading}
@@ -12,7 +14,6 @@ use Rattle.ct_expr.specs.Value.{value_of, checked_polynomial}
 use Rattle.ct_problem.specs.WellFormed.{IsReportOn}
 use Rattle.ct_run.specs.Setup.{listed, checked_values, checked_setup}
 use Rattle.ct_run.specs.Checking.{checked_polynomials, checked_quotient, checked_quotients, checked_certificate, summands_of}
-use Rattle.ct_run.proofs.Traversals.{both_pass, each_length}
 
 summands_of-names :
     (js : List Name) (qs : List (Operator × Polynomial)) (fs : List Polynomial) → length qs ≡ length js →
@@ -33,11 +34,11 @@ pub certificate_fits :
 unfolding checked_certificate
 certificate_fits names generators r c on fits =
     let a = actions_of names in
-    let telescoper = both_pass (value_of a r.telescoper) _ c fits in
-    let quotients = both_pass (checked_quotients a r.quotients) _ c telescoper.rest in
-    let scale = both_pass (checked_polynomial a r.scale) _ c quotients.rest in
-    let factors = both_pass (checked_polynomials a r.factors) _ c scale.rest in
-    let cofactors = both_pass (checked_values a r.cofactors) _ c factors.rest in
+    let telescoper = both_fit (value_of a r.telescoper) _ c fits in
+    let quotients = both_fit (checked_quotients a r.quotients) _ c telescoper.rest in
+    let scale = both_fit (checked_polynomial a r.scale) _ c quotients.rest in
+    let factors = both_fit (checked_polynomials a r.factors) _ c scale.rest in
+    let cofactors = both_fit (checked_values a r.cofactors) _ c factors.rest in
     let whole : record {
       telescoper = telescoper.value;
       scale = scale.value;
@@ -48,9 +49,9 @@ certificate_fits names generators r c on fits =
       names_are =
           ap (λ (d : Certificate). map (λ s. s.name) d.summands) (sym whole)
           ∙ summands_of-names (summed_of names) quotients.value factors.value
-          (omega (arith, each_length 1 (λ _ q. checked_quotient a q) r.quotients quotients.value quotients.first, on.each_quotient))
-          (omega (arith, each_length 1 (λ _ x. checked_polynomial a x) r.factors factors.value factors.first, on.each_factor));
-      cofactors = omega (arith, ap (λ (d : Certificate). length d.cofactors) whole, each_length 1 (λ _ x. value_of a x) r.cofactors cofactors.value cofactors.first, on.each_cofactor);
+          (omega (arith, each_length (λ _ q. checked_quotient a q) 1 r.quotients quotients.value quotients.first, on.each_quotient))
+          (omega (arith, each_length (λ _ x. checked_polynomial a x) 1 r.factors factors.value factors.first, on.each_factor));
+      cofactors = omega (arith, ap (λ (d : Certificate). length d.cofactors) whole, each_length (λ _ x. value_of a x) 1 r.cofactors cofactors.value cofactors.first, on.each_cofactor);
     }
 
 -- a generator for each `gen` line
@@ -58,7 +59,7 @@ pub setup_length : (p : Reading) (generators : List Operator) → checked_setup 
 unfolding checked_setup
 setup_length p generators fits =
     let a = actions_of p.variables in
-    let listed_values = both_pass (checked_values a (listed p.generators)) _ generators fits in
-    let targets = both_pass (checked_values a p.targets) _ generators listed_values.rest in
+    let listed_values = both_fit (checked_values a (listed p.generators)) _ generators fits in
+    let targets = both_fit (checked_values a p.targets) _ generators listed_values.rest in
     let same : listed_values.value ≡ generators = cc in
-    omega (arith, each_length 1 (λ _ x. value_of a x) (listed p.generators) listed_values.value listed_values.first, ap length same)
+    omega (arith, each_length (λ _ x. value_of a x) 1 (listed p.generators) listed_values.value listed_values.first, ap length same)

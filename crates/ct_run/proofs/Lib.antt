@@ -1,6 +1,5 @@
 mod Reported
 mod Parts
-mod Traversals
 mod CertificateFits
 mod NoLets
 mod ReducedTexts

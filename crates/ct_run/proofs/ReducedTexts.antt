@@ -1,15 +1,14 @@
 -- What a text of reductions means. Main lemma `reductions_mean`, which what a run means stands on.
-use Rattle.std.proofs.Common.{◌≡◌, refl, subst, ℕ, ◌+◌, List, [], ◌∷◌, Ok, Err}
+use Rattle.std.proofs.Common.{◌≡◌, refl, subst, ℕ, List, Ok, Err}
 use Rattle.ct_algebra.specs.Names.{Name}
 use Rattle.ct_algebra.specs.Actions.{Action}
 use Rattle.ct_algebra.specs.Operators.{Operator}
-use Rattle.ct_checked.specs.Checked.{Checked}
+use Rattle.ct_checked.specs.Checked.{Checked, refused_as}
+use Rattle.ct_checked.proofs.Traversals.{each_means}
 use Rattle.ct_reduce.specs.Membership.{Reduction, ReducesTo, IsReduced}
 use Rattle.ct_reduce.specs.Reduction.{checked_reduction}
 use Rattle.ct_reduce.proofs.ReductionMeans.{reduction_means}
 use Rattle.ct_run.specs.Reducing.{TargetOverflow, checked_reductions, target_reduction, EachReduces}
-use Rattle.ct_run.specs.Traversal.{each_from, refused_as}
-use Rattle.ct_run.proofs.Traversals.{both_pass}
 
 module _ (a : Name → Action) (generators : List Operator) where
   reduces :
@@ -25,15 +24,6 @@ module _ (a : Name → Action) (generators : List Operator) where
           subst (λ t. ReducesTo a generators x t × IsReduced generators t.rest) same (reduction_means a generators x s is)
       by (Err kind) is fits = cc
 
-  each_reduces :
-      (n : ℕ) (xs : List Operator) (rs : List Reduction) → each_from n (target_reduction a generators) xs ≡ Ok rs →
-      EachReduces a generators xs rs
-  each_reduces n [] rs fits = let same : [] ≡ rs = cc in subst (EachReduces a generators []) same tt
-  each_reduces n (x ∷ xs) rs fits =
-      let one = both_pass (target_reduction a generators n x) _ rs fits in
-      let more = both_pass (each_from (n + 1) (target_reduction a generators) xs) _ rs one.rest in
-      let same : one.value ∷ more.value ≡ rs = cc in
-      subst (EachReduces a generators (x ∷ xs)) same (reduces n x one.value one.first, each_reduces (n + 1) xs more.value more.first)
-
   pub reductions_mean : (xs : List Operator) (rs : List Reduction) → checked_reductions a generators xs ≡ Ok rs → EachReduces a generators xs rs
-  reductions_mean xs rs fits = each_reduces 1 xs rs fits
+  reductions_mean =
+      each_means (target_reduction a generators) (EachReduces a generators) tt (λ n x r xs rs fits each. (reduces n x r fits, each)) 1

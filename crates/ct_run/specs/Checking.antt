@@ -16,7 +16,8 @@ use Rattle.ct_algebra.specs.Polynomial.{Polynomial}
 use Rattle.ct_algebra.specs.Actions.{Action}
 use Rattle.ct_algebra.specs.Operators.{Operator}
 use Rattle.ct_algebra.specs.Certificate.{Summand, Certificate, Certifies}
-use Rattle.ct_checked.specs.Checked.{Checked}
+use Rattle.ct_checked.specs.Checked.{Checked, ◌>>=◌}
+use Rattle.ct_checked.specs.Traversal.{checked_each}
 use Rattle.ct_ore.specs.Naming.{Naming, actions_of, summed_of}
 use Rattle.ct_expr.specs.declared.expr.Expr.{Expr}
 use Rattle.ct_problem.specs.declared.problem.Range.{Range}
@@ -37,13 +38,12 @@ use Rattle.ct_io.specs.declared.command.Command.TheVariants.{Check}
 use Rattle.ct_run.specs.Lines.{not_yet, overflow_in_setup, overflow_in_report, no_line, verdict_line}
 pub use Rattle.ct_run.specs.Setup.{listed}
 use Rattle.ct_run.specs.Setup.{checked_values, checked_setup}
-use Rattle.ct_run.specs.Traversal.{◌>>=◌, each_ok}
 
 -- ---- the values of a report's expressions
 
 module _ (a : Name → Action) where
   abbrev pub checked_polynomials : List Expr → Checked (List Polynomial)
-  checked_polynomials xs = each_ok (checked_polynomial a) xs
+  checked_polynomials xs = checked_each (checked_polynomial a) xs
 
   -- numerator and denominator of a summed name
   abbrev pub checked_quotient : Quotient → Checked (Operator × Polynomial)
@@ -53,7 +53,7 @@ module _ (a : Name → Action) where
     Ok (numerator, denominator)
 
   abbrev pub checked_quotients : List Quotient → Checked (List (Operator × Polynomial))
-  checked_quotients qs = each_ok checked_quotient qs
+  checked_quotients qs = checked_each checked_quotient qs
 
 -- name by name
 abbrev pub summands_of : List Name → List (Operator × Polynomial) → List Polynomial → List Summand

@@ -2,12 +2,10 @@ pub mod Status
 pub mod Words
 pub mod Output
 pub mod Lines
-pub mod Traversal
 pub mod Setup
 pub mod Refusals
 pub mod Checking
 pub mod Reducing
-pub mod Reductions
 pub mod Fractions
 pub mod Out
 pub mod Run

@@ -10,6 +10,8 @@ use Rattle.ct_algebra.specs.Actions.{Action}
 use Rattle.ct_algebra.specs.Operators.{Operator}
 use Rattle.ct_io.specs.declared.command.Command.TheVariants.{Reduce}
 use Rattle.ct_checked.specs.declared.fault.Kind.{Kind}
+use Rattle.ct_checked.specs.Checked.{refused_as}
+use Rattle.ct_checked.specs.Traversal.{checked_each_from}
 use Rattle.ct_ore.specs.Naming.{Naming, actions_of}
 use Rattle.ct_reduce.specs.Membership.{Reduction, ReducesTo, IsReduced}
 use Rattle.ct_reduce.specs.Reduction.{checked_reduction}
@@ -20,7 +22,6 @@ use Rattle.ct_run.specs.declared.status.Outcome as outcomes
 use Rattle.ct_run.specs.declared.status.Outcome.TheVariants as outcome
 use Rattle.ct_run.specs.Lines.{overflow_in_setup, overflow_in_reduction, zero_generator}
 use Rattle.ct_run.specs.Output.{Output}
-use Rattle.ct_run.specs.Traversal.{each_from, refused_as}
 use Rattle.ct_run.specs.Setup.{Plain, Refusal, ZeroGenerator, Overflow, plain_setup}
 
 -- ---- the reductions
@@ -34,7 +35,7 @@ abbrev pub target_reduction : (Name → Action) → List Operator → ℕ → Op
 target_reduction a generators place x = refused_as (λ kind. (place, kind)) (checked_reduction a generators x)
 
 abbrev pub checked_reductions : (Name → Action) → List Operator → List Operator → Result (List Reduction) TargetOverflow
-checked_reductions a generators xs = each_from 1 (target_reduction a generators) xs
+checked_reductions a generators xs = checked_each_from 1 (target_reduction a generators) xs
 
 -- ---- the answer
 

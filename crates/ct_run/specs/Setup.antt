@@ -7,7 +7,8 @@ use Rattle.std.specs.Prelude.{ℕ, ◌==◌, List, [], length, Bool, if◌then�
 use Rattle.ct_algebra.specs.Names.{Name}
 use Rattle.ct_algebra.specs.Actions.{Action}
 use Rattle.ct_algebra.specs.Operators.{Operator}
-use Rattle.ct_checked.specs.Checked.{Checked}
+use Rattle.ct_checked.specs.Checked.{Checked, ◌>>=◌, refused_as}
+use Rattle.ct_checked.specs.Traversal.{checked_each, checked_each_from}
 use Rattle.ct_checked.specs.declared.fault.Kind.{Kind}
 use Rattle.ct_ore.specs.Naming.{actions_of}
 use Rattle.ct_expr.specs.declared.expr.Expr.{Expr}
@@ -15,14 +16,13 @@ use Rattle.ct_problem.specs.declared.problem.Gens.{Gens}
 use Rattle.ct_problem.specs.declared.problem.Gens.TheVariants.{Listed, Named}
 use Rattle.ct_problem.specs.ReadProblem.{Reading}
 use Rattle.ct_expr.specs.Value.{value_of}
-use Rattle.ct_run.specs.Traversal.{◌>>=◌, each_from, each_ok, refused_as}
 
 abbrev pub listed : Gens → List Expr
 listed (Listed xs) = xs
 listed (Named at) = []
 
 abbrev pub checked_values : (Name → Action) → List Expr → Checked (List Operator)
-checked_values a xs = each_ok (value_of a) xs
+checked_values a xs = checked_each (value_of a) xs
 
 unfoldable pub checked_setup : Reading → Checked (List Operator)
 checked_setup p = do
@@ -47,7 +47,7 @@ plain_generator a place x = do
   if is_nothing value then Err (ZeroGenerator place) else Ok value
 
 abbrev pub plain_generators : (Name → Action) → List Expr → Result (List Operator) Refusal
-plain_generators a xs = each_from 1 (plain_generator a) xs
+plain_generators a xs = checked_each_from 1 (plain_generator a) xs
 
 pub record Plain : Type 0 where
   pub generators : List Operator

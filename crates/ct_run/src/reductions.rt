@@ -1,9 +1,10 @@
 // The left reductions of several targets.
 ghost use Rattle.std.specs.Prelude.{map, Err, Ok};
+ghost use Rattle.ct_checked.specs.Checked.{AnswersAs};
 ghost use Rattle.ct_ore.specs.Naming.{actions_of};
 ghost use Rattle.ct_reduce.specs.Views.{reduction_of};
 ghost use Rattle.ct_run.specs.Reducing as spec;
-ghost use Rattle.ct_run.specs.Reductions.{Reduces};
+ghost use Rattle.ct_run.specs.Refusals.{target_overflow_of};
 
 use crate::values::append;
 use ct_mono::{Fault, Kind};
@@ -25,7 +26,7 @@ pub(crate) fn reductions(
     generators: &[Op],
     targets: &[Op],
 ) -> Result<Vec<Reduced>, TargetFault>
-    ensures { Reduces (λ v. map reduction_of v.items) (spec.checked_reductions (actions_of algebra.now) generators.now targets.now) result }
+    ensures { AnswersAs target_overflow_of (λ v. map reduction_of v.items) (spec.checked_reductions (actions_of algebra.now) generators.now targets.now) result }
 {
     let mut done = Vec::new(alloc);
     let mut rest = targets;

@@ -1,11 +1,11 @@
 // What the expressions of a problem stand for, in text order.
 ghost use Rattle.std.specs.Prelude.{◌≡◌, [], not};
-ghost use Rattle.ct_checked.specs.Checked.{AnswersBy};
+ghost use Rattle.ct_checked.specs.Checked.{AnswersAs, AnswersBy};
 ghost use Rattle.ct_ore.specs.Naming.{actions_of};
 ghost use Rattle.ct_problem.specs.ReadProblem.{is_empty, is_used, reading_of};
 ghost use Rattle.ct_problem.specs.WellFormed.{Each, IsOperator};
 ghost use Rattle.ct_run.specs.Setup as spec;
-ghost use Rattle.ct_run.specs.Refusals.{Refuses, plain_of, refusal_of};
+ghost use Rattle.ct_run.specs.Refusals.{setup_refusal_of, plain_of, refusal_of};
 
 use crate::values::{append, values};
 use ct_mono::{Fault, Kind, NoMemory};
@@ -65,7 +65,7 @@ pub(crate) struct Plain {
 /// The generators and the targets of a problem without a `use` line.
 #[tactic(auto, unfolding(crate::specs::Setup::plain_setup))]
 pub(crate) fn plain_setup(alloc: Global, problem: &Problem) -> Result<Plain, Refusal>
-    ensures { Refuses plain_of (spec.plain_setup (reading_of problem.now)) result }
+    ensures { AnswersAs setup_refusal_of plain_of (spec.plain_setup (reading_of problem.now)) result }
 {
     let generators = plain_generators(alloc, &problem.algebra, listed(&problem.gens))?;
     match values(alloc, &problem.algebra, problem.targets.as_slice()) {
@@ -79,7 +79,7 @@ pub(crate) fn plain_setup(alloc: Global, problem: &Problem) -> Result<Plain, Ref
 
 fn plain_generators(alloc: Global, algebra: &Algebra, exprs: &[Expr]) -> Result<Vec<Op>, Refusal>
     requires { Each (IsOperator algebra.now) exprs.now }
-    ensures { Refuses (λ v. v.items) (spec.plain_generators (actions_of algebra.now) exprs.now) result }
+    ensures { AnswersAs setup_refusal_of (λ v. v.items) (spec.plain_generators (actions_of algebra.now) exprs.now) result }
 {
     let mut done = Vec::new(alloc);
     let mut rest = exprs;

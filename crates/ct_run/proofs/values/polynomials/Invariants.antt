@@ -3,7 +3,7 @@ use Rattle.ct_ore.specs.Naming.{actions_of}
 use Rattle.ct_problem.specs.WellFormed.{Each, IsPolynomial}
 use Rattle.ct_expr.specs.Value.{checked_polynomial}
 use Rattle.ct_run.specs.Checking.{checked_polynomials}
-use Rattle.ct_run.proofs.Traversals.{behind}
+use Rattle.ct_checked.proofs.Traversals.{behind}
 use Rattle.ct_run.proofs.values.polynomials.Given as goal
 
 -- what is done and what is left

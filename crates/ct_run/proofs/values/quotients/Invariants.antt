@@ -3,7 +3,7 @@ use Rattle.ct_ore.specs.Naming.{actions_of}
 use Rattle.ct_problem.specs.WellFormed.{Each, IsQuotient}
 use Rattle.ct_run.specs.Fractions.{pair_of}
 use Rattle.ct_run.specs.Checking.{checked_quotient, checked_quotients}
-use Rattle.ct_run.proofs.Traversals.{behind}
+use Rattle.ct_checked.proofs.Traversals.{behind}
 use Rattle.ct_run.proofs.values.quotients.Given as goal
 
 -- what is done and what is left

@@ -3,7 +3,7 @@ use Rattle.ct_ore.specs.Naming.{actions_of}
 use Rattle.ct_problem.specs.WellFormed.{Each, IsOperator}
 use Rattle.ct_expr.specs.Value.{value_of}
 use Rattle.ct_run.specs.Setup.{checked_values}
-use Rattle.ct_run.proofs.Traversals.{behind}
+use Rattle.ct_checked.proofs.Traversals.{behind}
 use Rattle.ct_run.proofs.values.values.Given as goal
 
 -- what is done and what is left
