@@ -1,10 +1,6 @@
 -- A text that is added to a table stands last, where it stood nowhere before.
-use Rattle.std.proofs.Common.{◌≡◌, ℕ, Bool, false, ◌||◌, List, [], ◌∷◌, ◌++◌, map, None, cond, refl, sym, ap, ◌∙◌}
-use Rattle.std.specs.List.{position, list_any}
-use Rattle.std.specs.Str.{bytes_eq}
-use Rattle.std.specs.Global.{Vec}
-use Rattle.std.proofs.lemmas.List.{map-append}
-use Rattle.indexmap.specs.IndexSet.{insert_key}
+use Rattle.ct_problem.proofs.Base.{◌≡◌, ℕ, Bool, false, ◌||◌, List, [], ◌∷◌, ◌++◌, map, None, cond, refl, sym, ap, ◌∙◌, position, list_any, bytes_eq}
+use Rattle.ct_problem.proofs.Base.{Vec, map-append, insert_key}
 use Rattle.ct_problem.proofs.FirstPlaces.{position-none}
 
 abbrev pub items_of : Vec ℕ → List ℕ

@@ -1,18 +1,10 @@
 -- The names of name lines are an algebra. Main lemma `names_are`: a new name is a word with another text than those before it.
-use Rattle.std.proofs.Common.{◌≡◌, ◌≢◌, ◌↔◌, ℕ, ◌+◌, cond, List, [], ◌∷◌, ◌++◌, length, refl, sym, subst, arith}
-use Rattle.std.specs.List.{count_by}
-use Rattle.std.proofs.lemmas.List.{append_assoc, append-nil}
-use Rattle.std.proofs.lemmas.List.Sums.{sum_by-cons}
-use Rattle.ct_algebra.specs.Actions.{Action, Shift, Derive, Still}
-use Rattle.ct_ore.specs.Naming.{Naming, is_summed, IsNaming, EachIsNaming, IsOtherText, TextsDiffer, IsAlgebra}
-use Rattle.ct_ore.specs.declared.algebra.Role.{Role}
+use Rattle.ct_problem.proofs.Base.{◌≡◌, ◌≢◌, ◌↔◌, ℕ, ◌+◌, cond, List, [], ◌∷◌, ◌++◌, length, refl, sym, subst, arith, count_by, append_assoc}
+use Rattle.ct_problem.proofs.Base.{append-nil, sum_by-cons, Action, Shift, Derive, Still, Naming, is_summed, IsNaming, EachIsNaming, IsOtherText}
+use Rattle.ct_problem.proofs.Base.{TextsDiffer, IsAlgebra, Role, no_lets, AreFew, name_lines, Lexeme, Word, Texts, ◌▸◌, summed_texts, with_text, Each}
 use Rattle.ct_ore.specs.declared.algebra.Role.TheVariants as role
-use Rattle.ct_problem.specs.Declarations.{declared as no_lets}
 use Rattle.ct_problem.specs.GrammarLets.{declared}
-use Rattle.ct_problem.specs.GrammarProblem.{AreFew, name_line, name_lines}
-use Rattle.ct_problem.specs.Lexemes.{Lexeme, Word, Texts, ◌▸◌}
-use Rattle.ct_problem.specs.Names.{summed_texts, with_text}
-use Rattle.ct_problem.specs.WellFormed.{Each}
+use Rattle.ct_problem.specs.GrammarProblem.{name_line}
 use Rattle.ct_problem.proofs.NewNames.{IsSpelled, IsNew, is_new_gives, words_before, words_behind}
 
 -- ---- counts

@@ -1,18 +1,11 @@
 -- What is known of a cursor's tokens: those of a later part of the text are its tokens (`IsCursor-later`), and the bytes of a
 -- word are ASCII (`word_spelled`).
-use Rattle.std.proofs.Common.{◌≡◌, ℕ, zero, suc, ◌<◌, Bool, true, false, ◌&&◌, IsTrue, List, [], ◌∷◌, Some, refl, subst, arith, rules, tests}
-use Rattle.std.specs.List.{All, list_all, list_any}
-use Rattle.std.specs.Str.{IsAscii}
-use Rattle.std.proofs.lemmas.Bool.{false≢true}
-use Rattle.std.proofs.lemmas.Grind.{common_steps}
-use Rattle.std.proofs.lemmas.Str.Ascii.{IsAscii-from_all}
+use Rattle.ct_problem.proofs.Base.{◌≡◌, ℕ, zero, suc, ◌<◌, Bool, true, false, ◌&&◌, IsTrue, List, [], ◌∷◌, Some, refl, subst, arith, rules, tests}
+use Rattle.ct_problem.proofs.Base.{All, list_all, list_any, IsAscii, false≢true, common_steps, IsAscii-from_all, Token, is_letter, is_word_byte}
+use Rattle.ct_problem.proofs.Base.{is_line_end, AreTokens, IsToken, IsWord, slice, IsCursor, has_line_end, spelling_in, symbol_of}
+use Rattle.ct_problem.proofs.Frame.{slice_of-slice}
 use Rattle.ct_token.specs.declared.token.Symbol.TheVariants.{Word}
-use Rattle.ct_token.specs.declared.token.Token.{Token}
-use Rattle.ct_token.specs.Lexical.{is_letter, is_word_byte, is_line_end}
-use Rattle.ct_token.specs.Lexing.{AreTokens, IsToken, IsWord, Spells, slice}
-use Rattle.ct_problem.specs.Cursor.{IsCursor}
-use Rattle.ct_problem.specs.Input.{has_line_end, spelling_in, symbol_of}
-use Rattle.ct_problem.proofs.Slices.{slice_of-slice}
+use Rattle.ct_token.specs.Lexing.{Spells}
 
 -- ---- steps
 

@@ -1,9 +1,6 @@
 -- Texts and forms of `let` lines, side by side.
-use Rattle.std.proofs.Common.{◌≡◌, ℕ, suc, List, [], ◌∷◌, ◌++◌, length, map, refl, ap, arith}
-use Rattle.ct_problem.specs.declared.problem.LetForm.{LetForm}
-use Rattle.ct_problem.specs.LetLines.{Definition, with_definitions}
-use Rattle.ct_problem.specs.Names.{Names}
-use Rattle.ct_problem.specs.ReadProblem.{definitions_of}
+use Rattle.ct_problem.proofs.Base.{◌≡◌, ℕ, suc, List, [], ◌∷◌, ◌++◌, length, map, refl, ap, arith, LetForm, Definition, with_definitions, Names}
+use Rattle.ct_problem.proofs.Base.{definitions_of}
 
 -- one more of both
 pub definitions_of-more : (texts : List (List ℕ)) (forms : List LetForm) (text : List ℕ) (form : LetForm) → length texts ≡ length forms

@@ -1,14 +1,10 @@
 -- The texts of names that differ, as a table takes them one after the other.
 --     different_before     the text of a name stands nowhere among those before it
 --     all_texts            the texts of declared names are all texts, where no `let` line stands
-use Rattle.std.proofs.Common.{◌≡◌, ℕ, zero, suc, ◌<◌, false, List, [], ◌∷◌, ◌++◌, length, take, get_or, map, string_bytes, None, refl, sym, ap, ◌∙◌, arith}
-use Rattle.std.specs.List.{position}
-use Rattle.std.specs.Str.{bytes_eq}
-use Rattle.std.proofs.lemmas.List.{append-nil}
-use Rattle.ct_ore.specs.Naming.{IsOtherText, TextsDiffer, namings_of}
-use Rattle.ct_ore.specs.declared.algebra.NameInfo.{NameInfo}
+use Rattle.ct_problem.proofs.Base.{◌≡◌, ℕ, zero, suc, ◌<◌, false, List, [], ◌∷◌, ◌++◌, length, take, get_or, map, string_bytes, None, refl, sym, ap}
+use Rattle.ct_problem.proofs.Base.{◌∙◌, arith, position, bytes_eq, append-nil, IsOtherText, TextsDiffer, namings_of, NameInfo}
+use Rattle.ct_problem.proofs.Frame.{unequal_words}
 use Rattle.ct_problem.proofs.FirstPlaces.{position-none_more}
-use Rattle.ct_problem.proofs.ShownSymbols.{unequal_words}
 
 abbrev pub text_of : NameInfo → List ℕ
 text_of info = string_bytes info.text

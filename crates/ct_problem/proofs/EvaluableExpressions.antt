@@ -1,20 +1,14 @@
 -- The expressions of the grammar are over the declared names and can be evaluated, and those of polynomials have no symbol.
 -- Main lemma `expression_is`, rule by rule.
 --     each_gives     what follows for each of some values from the lexemes that stand for it
-use Rattle.std.proofs.Common.{◌≡◌, ℕ, zero, suc, ◌<◌, ◌≤◌, Bool, true, false, IsTrue, List, [], ◌∷◌, length, map, position, Option, Some, None, refl, sym, subst, arith}
+use Rattle.ct_problem.proofs.Base.{◌≡◌, ℕ, zero, suc, ◌<◌, ◌≤◌, Bool, true, false, IsTrue, List, [], ◌∷◌, length, map, Option, Some, None, refl, sym}
+use Rattle.ct_problem.proofs.Base.{subst, arith, false≢true, position-Some, Action, Shift, Derive, Still, by_action, Naming, Expr, IsAtom, IsFactor}
+use Rattle.ct_problem.proofs.Base.{IsTerm, IsSum, IsNested, IsExpression, IsActing, Term, summand, sum_of, Lexeme, Texts, each, Names, is_named}
+use Rattle.ct_problem.proofs.Base.{acts_as, same_action, is_listed, has_symbol, Each}
+use Rattle.std.proofs.Common.{position}
 use Rattle.std.specs.List.{slice_get}
-use Rattle.std.proofs.lemmas.Bool.{false≢true}
-use Rattle.std.proofs.lemmas.List.Quantifiers.{position-Some}
-use Rattle.ct_algebra.specs.Actions.{Action, Shift, Derive, Still, by_action}
-use Rattle.ct_ore.specs.Naming.{Naming}
 use Rattle.ct_ore.specs.declared.algebra.Role.TheVariants.{Free}
-use Rattle.ct_expr.specs.declared.expr.Expr.{Expr}
 use Rattle.ct_expr.specs.declared.expr.Expr.TheVariants as e
-use Rattle.ct_problem.specs.Grammar.{IsAtom, IsFactor, IsTerm, IsSum, IsNested, IsExpression, IsActing, Term, summand, sum_of}
-use Rattle.ct_problem.specs.Lexemes.{Lexeme, Texts, each}
-use Rattle.ct_problem.specs.Names.{Names, is_named, acts_as, same_action}
-use Rattle.ct_problem.specs.OverNames.{is_listed, has_symbol}
-use Rattle.ct_problem.specs.WellFormed.{Each}
 use Rattle.ct_problem.proofs.ExpressionKinds.{IsFor, IsTermFor, name_is, symbol_is, whole_is, ratio_is, summand_is, sum_is, product_of-is, power_is}
 
 pub each_gives : {X : Type 0} {a : X → Texts} {P : X → Type 0} → ((x : X) (ls : List Lexeme) → a x ls → P x) → (xs : List X) (ls : List Lexeme) → each a xs ls → Each P xs

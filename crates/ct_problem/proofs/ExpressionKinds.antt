@@ -1,19 +1,13 @@
 -- Which expressions can be evaluated, which are over the names of a list, and which have no symbol, kind by kind.
 --     IsFor names operators x     what is known of an expression over these names, with operators or without
-use Rattle.std.proofs.Common.{◌≡◌, ◌≢◌, ℕ, zero, suc, ◌<◌, ◌≤◌, Bool, true, false, List, [], ◌∷◌, map, IsTrue, pos, nat_lt, slice_get, refl, sym, ap, ◌∙◌, arith}
-use Rattle.std.proofs.lemmas.Bool.{false≢true, le-leb}
-use Rattle.ct_checked.specs.Limits.{largest_norm}
-use Rattle.ct_expr.specs.declared.expr.Expr.{Expr, roll-Expr}
+use Rattle.ct_problem.proofs.Base.{◌≡◌, ◌≢◌, ℕ, zero, suc, ◌<◌, ◌≤◌, Bool, true, false, List, [], ◌∷◌, map, IsTrue, pos, nat_lt, slice_get, refl, sym}
+use Rattle.ct_problem.proofs.Base.{ap, ◌∙◌, arith, false≢true, le-leb, largest_norm, Expr, roll-Expr, Expr-F, fold-Expr, fold-Summand, map-Expr}
+use Rattle.ct_problem.proofs.Base.{fold-roll-Expr, fold-roll-Summand, Summand, Naming, summand, is_over, is_over_term, over_step, is_listed}
+use Rattle.ct_problem.proofs.Base.{has_symbol, some_all_true, is_evaluable, is_evaluable_term, has_no_symbol, has_no_symbol_term, no_symbol_step}
+use Rattle.ct_problem.proofs.Base.{term_step, all_true, Each, evaluable-Whole, evaluable-Ratio, evaluable-Name, evaluable-Symbol, evaluable-Sum}
+use Rattle.ct_problem.proofs.Base.{evaluable-Product, evaluable-Power}
 use Rattle.ct_expr.specs.declared.expr.Expr.TheVariants as e
-use Rattle.ct_expr.specs.declared.expr.Expr.TheOpen.{Expr-F}
-use Rattle.ct_expr.specs.declared.expr.Expr.TheFolds.{fold-Expr, fold-Summand, map-Expr, fold-roll-Expr, fold-roll-Summand}
-use Rattle.ct_expr.specs.declared.expr.Summand.{Summand}
-use Rattle.ct_ore.specs.Naming.{Naming}
-use Rattle.ct_problem.specs.Grammar.{product_of, summand}
-use Rattle.ct_problem.specs.OverNames.{is_over, is_over_term, over_step, is_listed, has_symbol, some_all_true}
-use Rattle.ct_expr.specs.Value.{is_evaluable, is_evaluable_term, has_no_symbol, has_no_symbol_term, no_symbol_step, term_step, all_true}
-use Rattle.ct_problem.specs.WellFormed.{Each}
-use Rattle.ct_expr.proofs.Values.{evaluable-Whole, evaluable-Ratio, evaluable-Name, evaluable-Symbol, evaluable-Sum, evaluable-Product, evaluable-Power}
+use Rattle.ct_problem.specs.Grammar.{product_of}
 
 -- what a step gives at an expression
 stepped : (step : Expr-F Bool Bool → Bool) (x : Expr-F Expr Summand) (y : Expr) → roll-Expr x ≡ y

@@ -1,8 +1,8 @@
 -- The first place in a list that passes a test, item by item and list by list.
 --     position-append     in one list after another
 --     position-none       where there is none, no item passes
-use Rattle.std.proofs.Common.{◌≡◌, ℕ, suc, ◌+◌, Bool, true, false, cond, not, ◌||◌, nat_lt, List, [], ◌∷◌, ◌++◌, length, Option, Some, None, refl, sym, ap, ◌∙◌, arith, rules, tests}
-use Rattle.std.specs.List.{position, prefix_len, list_any}
+use Rattle.ct_problem.proofs.Base.{◌≡◌, ℕ, suc, ◌+◌, Bool, true, false, cond, not, ◌||◌, nat_lt, List, [], ◌∷◌, ◌++◌, length, Option, Some, None}
+use Rattle.ct_problem.proofs.Base.{refl, sym, ap, ◌∙◌, arith, rules, tests, position, prefix_len, list_any}
 
 later : Option ℕ → Option ℕ
 later None = None

@@ -3,16 +3,10 @@
 --     Settled j         where tokens are left and no line ends, the text goes on to its end: so it is behind a step to a line
 --                       (`fresh_line-settles`), and stays so past what doesn't end a line (`passed`)
 --     used-taken        the lexemes that were taken are those of the tokens that were
-use Rattle.std.proofs.Common.{◌≡◌, ℕ, Bool, true, false, List, [], ◌∷◌, ◌++◌, Option, Some, None, Ok, refl, sym, ap, ◌∙◌}
-use Rattle.std.proofs.lemmas.List.{append_assoc, append_cancel_right}
-use Rattle.ct_token.specs.declared.token.Token.{Token}
-use Rattle.std.proofs.lemmas.Bool.{false≢true}
-use Rattle.ct_token.specs.Lexical.{is_line_end}
-use Rattle.ct_token.specs.Lexing.{slice}
-use Rattle.ct_token.specs.declared.token.Symbol.{Symbol}
+use Rattle.ct_problem.proofs.Base.{◌≡◌, ℕ, Bool, true, false, List, [], ◌∷◌, ◌++◌, Option, Some, None, Ok, refl, sym, ap, ◌∙◌, append_assoc}
+use Rattle.ct_problem.proofs.Base.{append_cancel_right, Token, false≢true, is_line_end, slice, Symbol, Input, next, tail, has_line_end, fresh_line}
+use Rattle.ct_problem.proofs.Base.{fresh_by, Lexeme, Word, Number, Sign, Dots, LineEnd, lexeme_of, lexemes}
 use Rattle.ct_token.specs.declared.token.Symbol.TheVariants as symbol
-use Rattle.ct_problem.specs.Input.{Input, next, tail, has_line_end, fresh_line, fresh_by}
-use Rattle.ct_problem.specs.Lexemes.{Lexeme, Word, Number, Sign, Dots, LineEnd, lexeme_of, lexemes}
 use Rattle.ct_problem.proofs.LexemeSteps.{shown}
 
 -- tokens are left

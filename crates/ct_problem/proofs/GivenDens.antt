@@ -1,8 +1,6 @@
 -- What stands for each declared name, as a list with places.
-use Rattle.std.proofs.Common.{◌≡◌, ℕ, zero, suc, Bool, false, [], ◌∷◌, length, Option, Some, None, is_some, slice_get, refl, ap}
-use Rattle.std.proofs.Math.ListN.{set}
-use Rattle.ct_expr.specs.declared.expr.Expr.{Expr}
-use Rattle.ct_problem.specs.DenLines.{Dens, is_given, with_den}
+use Rattle.ct_problem.proofs.Base.{◌≡◌, ℕ, zero, suc, Bool, false, [], ◌∷◌, length, Option, Some, None, is_some, slice_get, refl, ap, set, Expr, Dens}
+use Rattle.ct_problem.proofs.Base.{is_given, with_den}
 
 abbrev is_there : Option (Option Expr) → Bool
 is_there (Some d) = is_some d

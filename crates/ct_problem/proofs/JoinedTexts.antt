@@ -1,7 +1,5 @@
 -- Lists of one set followed by lists of another: grouping, and parts that are empty or replaced.
-use Rattle.std.proofs.Common.{List, [], ◌++◌, refl, sym, ap, ◌∙◌, subst}
-use Rattle.std.proofs.lemmas.List.{append_assoc, append-nil}
-use Rattle.ct_problem.specs.Lexemes.{Lexeme, Texts, nothing, ◌▸◌}
+use Rattle.ct_problem.proofs.Base.{List, [], ◌++◌, refl, sym, ap, ◌∙◌, subst, append_assoc, append-nil, Lexeme, Texts, nothing, ◌▸◌}
 
 pub joined : {a b : Texts} (xs ys : List Lexeme) → a xs → b ys → (a ▸ b) (xs ++ ys)
 joined xs ys first second = record { front = xs; back = ys; parts = refl; first = first; second = second }

@@ -1,10 +1,6 @@
 -- What letters name, and where the name stands.
 --     known-variable, variable-known    the first declared name of these letters has this number
-use Rattle.std.proofs.Common.{◌≡◌, ℕ, List, Option, Some, None, ap}
-use Rattle.std.specs.List.{position}
-use Rattle.std.specs.Str.{bytes_eq}
-use Rattle.ct_problem.specs.declared.reading.names.Known.TheVariants.{Variable}
-use Rattle.ct_problem.specs.Names.{Names, is_named, known, known_by}
+use Rattle.ct_problem.proofs.Base.{◌≡◌, ℕ, List, Option, Some, None, ap, position, bytes_eq, Variable, Names, is_named, known, known_by}
 
 pub known-variable : (letters : List ℕ) (at : ℕ) (names : Names) → position (is_named letters) names.variables ≡ Some at → known letters names ≡ Variable at
 unfolding known

@@ -2,18 +2,12 @@
 --     known-texts     the name at that place
 --     known-within    a name that is known stands
 --     new-texts       a text that may be declared stands nowhere
-use Rattle.std.proofs.Common.{◌≡◌, ℕ, ◌+◌, ◌-◌, ◌<◌, Bool, true, false, not, cond, nat_lt, List, [], length, map, Option, Some, None, IsTrue, refl, sym, ap, ◌∙◌, arith, rules, tests}
-use Rattle.std.specs.List.{position}
-use Rattle.std.specs.Str.{bytes_eq}
-use Rattle.std.proofs.lemmas.Bool.{false≢true}
-use Rattle.std.proofs.lemmas.List.{length-map}
-use Rattle.std.proofs.lemmas.List.Quantifiers.{position-Some}
-use Rattle.ct_algebra.specs.Actions.{Still}
+use Rattle.ct_problem.proofs.Base.{◌≡◌, ℕ, ◌+◌, ◌-◌, ◌<◌, Bool, true, false, not, cond, nat_lt, List, [], length, map, Option, Some, None, IsTrue}
+use Rattle.ct_problem.proofs.Base.{refl, sym, ap, ◌∙◌, arith, rules, tests, position, bytes_eq, false≢true, length-map, position-Some, Still, Known}
+use Rattle.ct_problem.proofs.Base.{Variable, Let, IsPlaceIn, known_at, Names, is_letter_of_symbol, is_named, is_new, is_unknown, known, known_by}
+use Rattle.ct_problem.proofs.Base.{texts_of}
 use Rattle.ct_ore.specs.declared.algebra.Role.TheVariants.{Free}
-use Rattle.ct_problem.specs.declared.reading.names.Known.{Known}
-use Rattle.ct_problem.specs.declared.reading.names.Known.TheVariants.{Variable, Let}
-use Rattle.ct_problem.specs.Cursor.{AreFew, IsPlaceIn, known_at}
-use Rattle.ct_problem.specs.Names.{Names, is_letter_of_symbol, is_named, is_new, is_unknown, known, known_by, texts_of}
+use Rattle.ct_problem.specs.Cursor.{AreFew}
 use Rattle.ct_problem.proofs.Cursors.{both_pass}
 use Rattle.ct_problem.proofs.FirstPlaces.{behind, position-append}
 use Rattle.ct_problem.proofs.Places.{position-map}

@@ -1,23 +1,9 @@
 -- A text has no more lexemes than bytes, and a report that stands in one has no more cofactors. Main lemma `cofactors_fit`.
-use Rattle.std.proofs.Common.{ℕ, ◌+◌, ◌-◌, ◌<◌, ◌≤◌, nat_le, List, [], ◌∷◌, length, drop, IsTrue, ap, arith, codes, length-append}
-use Rattle.std.proofs.lemmas.Bool.{leb-true}
-use Rattle.std.proofs.lemmas.List.{length-drop}
-use Rattle.ct_checked.specs.Limits.{largest_norm}
-use Rattle.ct_ore.specs.Naming.{Naming}
-use Rattle.ct_token.specs.Lexical.{scan_of}
-use Rattle.ct_token.specs.Lexing.{AreTokens}
-use Rattle.ct_token.specs.declared.token.Token.{Token}
-use Rattle.ct_token.proofs.TokenPlaces.{scans_are_tokens}
-use Rattle.ct_expr.specs.declared.expr.Expr.{Expr}
-use Rattle.ct_problem.specs.declared.report.Report.{Report}
-use Rattle.ct_problem.specs.GrammarReport.{ReportStandsFor, cofactors}
-use Rattle.ct_problem.specs.Lexemes.{Lexeme, Word, Texts, ◌▸◌, lexemes}
-use Rattle.ct_problem.specs.Names.{Names}
-use Rattle.ct_problem.specs.Limits.{most_bytes}
-use Rattle.ct_problem.specs.Plain.{is_plain}
-use Rattle.ct_problem.specs.ReadProblem.{input_of_scan}
+use Rattle.ct_problem.proofs.Base.{ℕ, ◌+◌, ◌-◌, ◌<◌, ◌≤◌, nat_le, List, [], ◌∷◌, length, drop, IsTrue, ap, arith, codes, length-append, leb-true}
+use Rattle.ct_problem.proofs.Base.{length-drop, largest_norm, Naming, scan_of, AreTokens, Token, scans_are_tokens, Expr, Report, ReportStandsFor}
+use Rattle.ct_problem.proofs.Base.{cofactors, Lexeme, Word, Texts, ◌▸◌, lexemes, Names, most_bytes, is_plain, input_of_scan}
+use Rattle.ct_problem.proofs.Frame.{joined_to_right}
 use Rattle.ct_problem.proofs.Cursors.{both_pass}
-use Rattle.ct_problem.proofs.JoinedTexts.{joined_to_right}
 use Rattle.ct_problem.proofs.LexemeStarts.{begun-length, length-shown}
 
 -- ---- tokens

@@ -1,11 +1,9 @@
 -- How lexemes begin, and what may come after a rule.
 --     Opens ls                        there is a first lexeme, and it is no `-`
 --     AfterAtom, AfterFactor, AfterTerm, AfterSum   the lexemes that come after go on with no such rule
-use Rattle.std.proofs.Common.{◌≡◌, suc, ◌<◌, ◌≤◌, false, List, [], ◌∷◌, ◌++◌, length, refl, sym, ap, ◌∙◌, subst, arith, length-append}
-use Rattle.ct_token.specs.declared.token.Token.{Token}
-use Rattle.ct_problem.specs.Input.{Input}
-use Rattle.ct_problem.specs.Lexemes.{Lexeme, Texts, one, ◌▸◌, each, lexemes}
-use Rattle.ct_problem.proofs.LexemeSteps.{shown, shows_sign}
+use Rattle.ct_problem.proofs.Base.{◌≡◌, suc, ◌<◌, ◌≤◌, false, List, [], ◌∷◌, ◌++◌, length, refl, sym, ap, ◌∙◌, subst, arith, length-append, Token}
+use Rattle.ct_problem.proofs.Base.{Input, Lexeme, Texts, one, ◌▸◌, each, lexemes}
+use Rattle.ct_problem.proofs.Frame.{shown, shows_sign}
 
 -- there is a first lexeme, and it is no `-`
 pub record Opens (ls : List Lexeme) : Type 0 where

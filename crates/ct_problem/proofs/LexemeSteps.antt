@@ -1,17 +1,11 @@
 -- What an input shows of its lexemes: the next one, and those after it.
 --     shown i                    the lexemes that are left
 --     sees-shown, sees_word-shown, shown-next    the tests of an input and its next, by the lexemes
-use Rattle.std.proofs.Common.{◌≡◌, ℕ, ◌+◌, ◌-◌, ◌*◌, ◌≤◌, ◌==◌, min, fold, Bool, false, List, [], ◌∷◌, Some, refl, sym, ap, ◌∙◌, arith}
-use Rattle.std.specs.Str.{bytes_eq}
-use Rattle.ct_token.specs.declared.token.Symbol.{Symbol}
+use Rattle.ct_problem.proofs.Base.{◌≡◌, ℕ, ◌+◌, ◌-◌, ◌*◌, ◌≤◌, ◌==◌, min, fold, Bool, false, List, [], ◌∷◌, Some, refl, sym, ap, ◌∙◌, arith, bytes_eq}
+use Rattle.ct_problem.proofs.Base.{Symbol, Token, slice, Input, next, tail, is_sign, is_word, sees, sees_word, spelling, spelling_in, Lexeme, Word}
+use Rattle.ct_problem.proofs.Base.{Number, Sign, Dots, LineEnd, lexeme_of, lexemes, decimal, value_of, largest_norm}
 use Rattle.ct_token.specs.declared.token.Symbol.TheVariants as symbol
-use Rattle.ct_token.specs.declared.token.Token.{Token}
-use Rattle.ct_token.specs.Lexing.{slice}
-use Rattle.ct_problem.specs.Input.{Input, next, tail, is_sign, is_word, sees, sees_word, spelling, spelling_in}
 use Rattle.ct_problem.specs.Input as input
-use Rattle.ct_problem.specs.Lexemes.{Lexeme, Word, Number, Sign, Dots, LineEnd, lexeme_of, lexemes, decimal}
-use Rattle.ct_problem.specs.Number.{value_of}
-use Rattle.ct_checked.specs.Limits.{largest_norm}
 use Rattle.ct_problem.proofs.Slices.{slice_of-slice}
 
 abbrev pub shown : Input → List Lexeme

@@ -1,3 +1,5 @@
+pub mod Base
+pub mod Frame
 pub mod Places
 pub mod Slices
 pub mod Cursors

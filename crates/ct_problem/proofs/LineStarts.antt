@@ -2,13 +2,9 @@
 --     From r rest          a line of this rank or a later one begins there
 --     AfterLines bad r     the same, where lines may be stepped to
 --     Leads bad r s M      lexemes of M, before a line from s on, begin with one from r on
-use Rattle.std.proofs.Common.{◌≡◌, ℕ, ◌<◌, ◌≤◌, true, false, cond, List, [], ◌∷◌, ◌++◌, Option, Some, None, refl, sym, ap, ◌∙◌, subst, arith, codes}
-use Rattle.std.specs.Str.{bytes_eq}
-use Rattle.std.proofs.lemmas.List.{append_assoc}
-use Rattle.ct_problem.specs.Lexemes.{Lexeme, Word, Number, Sign, Dots, LineEnd, Texts, nothing, one, ◌▸◌}
-use Rattle.ct_problem.proofs.LexemeSteps.{shows_word}
-use Rattle.ct_problem.proofs.ShownSymbols.{unequal_words}
-use Rattle.ct_problem.proofs.TakenSteps.{has_end, IsFresh}
+use Rattle.ct_problem.proofs.Base.{◌≡◌, ℕ, ◌<◌, ◌≤◌, true, false, cond, List, [], ◌∷◌, ◌++◌, Option, Some, None, refl, sym, ap, ◌∙◌, subst, arith}
+use Rattle.ct_problem.proofs.Base.{codes, bytes_eq, append_assoc, Lexeme, Word, Number, Sign, Dots, LineEnd, Texts, nothing, one, ◌▸◌}
+use Rattle.ct_problem.proofs.Frame.{shows_word, unequal_words, has_end, IsFresh}
 
 pub data Key : Type 0 where
   Let : Key

@@ -3,18 +3,10 @@
 --     Rooms found ns               and for each of these, after those before it
 --     rooms_fit, few_rooms         just where there are few enough of them in all
 --     room_is, room_for            just where the names before aren't too many for its line
-use Rattle.std.proofs.Common.{◌≡◌, ℕ, suc, ◌+◌, ◌≤◌, ◌||◌, Bool, true, false, cond, List, [], ◌∷◌, ◌++◌, refl, sym, ap, ◌∙◌, subst, arith, ltb-false}
-use Rattle.std.specs.List.{count_by}
-use Rattle.std.proofs.lemmas.Bool.{false≢true, le-ltb}
-use Rattle.std.proofs.lemmas.List.{append_assoc, append-nil}
-use Rattle.std.proofs.lemmas.List.Sums.{sum_by-append, sum_by-cons}
-use Rattle.ct_algebra.specs.Actions.{Action, by_action}
-use Rattle.ct_ore.specs.Naming.{Naming, has_operator, is_summed}
-use Rattle.ct_ore.specs.declared.algebra.Role.{Role}
-use Rattle.ct_ore.specs.declared.algebra.Role.TheVariants.{Summed}
-use Rattle.ct_problem.specs.declared.reading.declarations.NameLine.{NameLine}
-use Rattle.ct_problem.specs.declared.reading.declarations.NameLine.TheVariants.{Free, Sum, Int, Param}
-use Rattle.ct_problem.specs.Declarations.{role_of_line, is_full, acts_fully, sums_fully}
+use Rattle.ct_problem.proofs.Base.{◌≡◌, ℕ, suc, ◌+◌, ◌≤◌, ◌||◌, Bool, true, false, cond, List, [], ◌∷◌, ◌++◌, refl, sym, ap, ◌∙◌, subst, arith}
+use Rattle.ct_problem.proofs.Base.{ltb-false, count_by, false≢true, le-ltb, append_assoc, append-nil, sum_by-append, sum_by-cons, Action, by_action}
+use Rattle.ct_problem.proofs.Base.{Naming, has_operator, is_summed, Role, Summed, NameLine, Free, Sum, Int, Param, role_of_line, is_full, acts_fully}
+use Rattle.ct_problem.proofs.Base.{sums_fully}
 use Rattle.ct_problem.proofs.AlgebraNames.{summed_count}
 
 abbrev pub summed_ones : List Naming → ℕ

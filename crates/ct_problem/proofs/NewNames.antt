@@ -1,22 +1,14 @@
 -- What is known of a text that is declared: it is a word, since tokens are spelled as their symbols say, and differs from the
 -- texts before it. Main lemmas `words_are` and `is_new_gives`.
-use Rattle.std.proofs.Common.{◌≡◌, ◌≢◌, ℕ, suc, ◌+◌, ◌<◌, ◌||◌, not, Bool, true, false, cond, List, [], ◌∷◌, ◌++◌, length, Option, Some, None, IsTrue, nat_lt, refl, sym, ◌∙◌, subst, arith, rules, tests, codes}
-use Rattle.std.specs.List.{position, prefix_len, list_all}
-use Rattle.std.specs.Option.{is_none}
-use Rattle.std.specs.Str.{bytes_eq}
-use Rattle.std.proofs.lemmas.Bool.{false≢true}
-use Rattle.std.proofs.lemmas.Slice.Eq.{bytes_eq-Decides}
-use Rattle.ct_token.specs.declared.token.Symbol.{Symbol}
+use Rattle.ct_problem.proofs.Base.{◌≡◌, ◌≢◌, ℕ, suc, ◌+◌, ◌<◌, ◌||◌, not, Bool, true, false, cond, List, [], ◌∷◌, ◌++◌, length, Option, Some, None}
+use Rattle.ct_problem.proofs.Base.{IsTrue, nat_lt, refl, sym, ◌∙◌, subst, arith, rules, tests, codes, position, prefix_len, list_all, is_none}
+use Rattle.ct_problem.proofs.Base.{bytes_eq, false≢true, bytes_eq-Decides, Symbol, Token, slice, Naming, are_word_bytes, IsOtherText, Lexeme, Texts}
+use Rattle.ct_problem.proofs.Base.{◌▸◌, lexeme_of, lexemes, Names, is_named, is_new, is_unknown, is_letter_of_symbol, known, known_by, Each}
 use Rattle.ct_token.specs.declared.token.Symbol.TheVariants.{Word, Number, Sign, Dots, LineEnd}
-use Rattle.ct_token.specs.declared.token.Token.{Token}
 use Rattle.ct_token.specs.Lexical as lexical
 use Rattle.ct_token.specs.Lexing as lexing
-use Rattle.ct_token.specs.Lexing.{slice}
-use Rattle.ct_ore.specs.Naming.{Naming, IsWord, are_word_bytes, IsOtherText}
-use Rattle.ct_problem.specs.Lexemes.{Lexeme, Texts, ◌▸◌, lexeme_of, lexemes}
+use Rattle.ct_ore.specs.Naming.{IsWord}
 use Rattle.ct_problem.specs.Lexemes as lexeme
-use Rattle.ct_problem.specs.Names.{Names, is_named, is_new, is_unknown, is_letter_of_symbol, known, known_by}
-use Rattle.ct_problem.specs.WellFormed.{Each}
 use Rattle.ct_problem.proofs.Cursors.{both_pass}
 
 -- ---- words

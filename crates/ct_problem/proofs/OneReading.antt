@@ -1,8 +1,5 @@
 -- A text stands for one problem at most, and for one report: for what it is read as.
-use Rattle.std.proofs.Common.{◌≡◌, ℕ, Some, Result, Ok, sym, ap, ◌∙◌}
-use Rattle.ct_problem.specs.declared.fault.BadInput.{BadInput}
-use Rattle.ct_problem.specs.GrammarLaws.{TextsStandForOneProblem, TextsStandForOneReport}
-use Rattle.ct_problem.specs.ReadProblem.{Reading}
+use Rattle.ct_problem.proofs.Base.{◌≡◌, ℕ, Some, Result, Ok, sym, ap, ◌∙◌, BadInput, TextsStandForOneProblem, TextsStandForOneReport, Reading}
 use Rattle.ct_problem.proofs.LexemeCounts.{cofactors_fit}
 use Rattle.ct_problem.proofs.TakenProblems.{problem_taken}
 use Rattle.ct_problem.proofs.TakenReportTexts.{report_taken}

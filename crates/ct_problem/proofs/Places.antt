@@ -1,7 +1,6 @@
 -- The first place in a list whose elements are seen through a function.
-use Rattle.std.proofs.Common.{◌≡◌, refl, ℕ, ◌+◌, Bool, cond, not, nat_lt, List, [], ◌∷◌, map, Option, Some, None, ap, ap₂}
-use Rattle.std.proofs.lemmas.List.{length-map}
-use Rattle.std.specs.List.{position, prefix_len}
+use Rattle.ct_problem.proofs.Base.{◌≡◌, refl, ℕ, ◌+◌, Bool, cond, not, nat_lt, List, [], ◌∷◌, map, Option, Some, None, ap, ap₂, length-map, position}
+use Rattle.ct_problem.proofs.Base.{prefix_len}
 
 module _ {X Y : Type 0} (p : Y → Bool) (f : X → Y) where
   prefix_len-map : (xs : List X) → prefix_len (λ y. not (p y)) (map f xs) ≡ prefix_len (λ x. not (p (f x))) xs

@@ -1,19 +1,12 @@
 -- The last line of a plain text has its end: its last token is no word. Main lemma `no_word_is_last`.
-use Rattle.std.proofs.Common.{◌≡◌, ◌≢◌, ℕ, ◌+◌, ◌==◌, Bool, true, false, List, [], ◌∷◌, ◌++◌, length, drop, nat_le, Option, Some, None, IsTrue, ◌⊎◌, inl, inr, refl, sym, ap, ◌∙◌, subst, rules, arith, tests}
-use Rattle.std.specs.List.{list_all}
-use Rattle.std.proofs.lemmas.Bool.{false≢true}
-use Rattle.std.proofs.lemmas.Grind.{common_steps}
-use Rattle.std.proofs.lemmas.List.{append_assoc, append-nil}
-use Rattle.ct_token.specs.declared.token.Symbol.{Symbol}
+use Rattle.ct_problem.proofs.Base.{◌≡◌, ◌≢◌, ℕ, ◌+◌, ◌==◌, Bool, true, false, List, [], ◌∷◌, ◌++◌, length, drop, nat_le, Option, Some, None, IsTrue}
+use Rattle.ct_problem.proofs.Base.{◌⊎◌, inl, inr, refl, sym, ap, ◌∙◌, subst, rules, arith, tests, list_all, false≢true, common_steps, append_assoc}
+use Rattle.ct_problem.proofs.Base.{append-nil, Symbol, Token, Stretch, Gap, AreStretches, IsGap, IsBlank, IsEnding, bytes_of, tokens_at, scan_of}
+use Rattle.ct_problem.proofs.Base.{is_blank, is_printable, is_letter, is_word_byte, is_line_end, IsWord, scans_cut_the_text, Line, Ended, Blank}
+use Rattle.ct_problem.proofs.Base.{Written, line_after, after_all, ends, is_plain}
 use Rattle.ct_token.specs.declared.token.Symbol.TheVariants.{Word}
-use Rattle.ct_token.specs.declared.token.Token.{Token}
-use Rattle.ct_token.specs.Cutting.{Stretch, Gap, Lexeme, AreStretches, IsGap, IsBlank, IsEnding, bytes_of, tokens_at}
-use Rattle.ct_token.specs.Lexical.{scan_of, is_blank, is_printable, is_letter, is_word_byte, is_line_end}
-use Rattle.ct_token.specs.Lexing.{Spells, IsWord}
-use Rattle.ct_token.proofs.Cuts.{scans_cut_the_text}
-use Rattle.ct_problem.specs.declared.reading.plain.Line.{Line}
-use Rattle.ct_problem.specs.declared.reading.plain.Line.TheVariants.{Ended, Blank, Written}
-use Rattle.ct_problem.specs.Plain.{line_after, after_all, ends, is_plain}
+use Rattle.ct_token.specs.Cutting.{Lexeme}
+use Rattle.ct_token.specs.Lexing.{Spells}
 use Rattle.ct_problem.proofs.Cursors.{both_pass}
 use Rattle.ct_problem.proofs.Plainness.{after_all-None}
 

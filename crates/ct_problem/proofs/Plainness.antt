@@ -1,8 +1,6 @@
 -- Plain texts, byte by byte.
-use Rattle.std.proofs.Common.{◌≡◌, ℕ, suc, ◌+◌, ◌<◌, ◌≤◌, List, [], ◌∷◌, length, drop, get_or, Option, Some, None, refl, sym, ap, ◌∙◌, arith, drop-cons}
-use Rattle.std.proofs.lemmas.List.{drop_all}
-use Rattle.ct_problem.specs.declared.reading.plain.Line.{Line}
-use Rattle.ct_problem.specs.Plain.{line_after, after_all}
+use Rattle.ct_problem.proofs.Base.{◌≡◌, ℕ, suc, ◌+◌, ◌<◌, ◌≤◌, List, [], ◌∷◌, length, drop, get_or, Option, Some, None, refl, sym, ap, ◌∙◌, arith}
+use Rattle.ct_problem.proofs.Base.{drop-cons, drop_all, Line, line_after, after_all}
 
 module _ {x : Option Line} (line : Line) (text : List ℕ) (at : ℕ) where
   pub one_byte : (o : Option Line) → at < length text → o ≡ line_after line (get_or text at 0) → x ≡ after_all (Some line) (drop at text) → x ≡ after_all o (drop (at + 1) text)

@@ -1,12 +1,6 @@
 -- A problem ends within its text. Main lemma `end_within`.
-use Rattle.std.proofs.Common.{ℕ, ◌≤◌, List, [], ◌∷◌, ◌++◌, length, Option, subst, arith}
-use Rattle.ct_io.specs.declared.command.Command.{Command}
-use Rattle.ct_token.specs.Lexical.{scan_of}
-use Rattle.ct_token.specs.Lexing.{AreTokens}
-use Rattle.ct_token.specs.declared.token.Token.{Token}
-use Rattle.ct_token.proofs.TokenPlaces.{scans_are_tokens}
-use Rattle.ct_problem.specs.GrammarProblem.{IsEnd, StandsFor}
-use Rattle.ct_problem.specs.ReadProblem.{Reading}
+use Rattle.ct_problem.proofs.Base.{ℕ, ◌≤◌, List, [], ◌∷◌, ◌++◌, length, Option, subst, arith, Command, scan_of, AreTokens, Token, scans_are_tokens}
+use Rattle.ct_problem.proofs.Base.{IsEnd, StandsFor, Reading}
 
 module _ (bytes : List ℕ) where
   token_within : (lines : List Token) (t : Token) (more : List Token) (at : ℕ) → AreTokens bytes at (lines ++ t ∷ more) → t.to ≤ length bytes

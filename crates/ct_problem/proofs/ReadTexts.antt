@@ -1,7 +1,6 @@
 -- A text is read as what it stands for, and as nothing else. Main lemmas: the two laws `problems_are_read` and `reports_are_read`,
 -- which the functions of these names cite.
-use Rattle.std.proofs.Common.{arith}
-use Rattle.ct_problem.specs.GrammarLaws.{ProblemsAreRead, ReportsAreRead}
+use Rattle.ct_problem.proofs.Base.{arith, ProblemsAreRead, ReportsAreRead}
 use Rattle.ct_problem.proofs.SpelledReportTexts.{report_spelled}
 use Rattle.ct_problem.proofs.SpelledTexts.{problem_spelled}
 use Rattle.ct_problem.proofs.TakenProblems.{problem_taken}

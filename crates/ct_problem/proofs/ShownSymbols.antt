@@ -1,16 +1,11 @@
 -- The next token of an input, by the lexemes that it shows.
 --     shows_a_word and others     its symbol
 --     spelling-shown, decimal-shown    its letters, and its value
-use Rattle.std.proofs.Common.{◌≡◌, ◌≢◌, ℕ, ◌==◌, Bool, true, false, List, [], ◌∷◌, Option, Some, None, refl, sym, ap, ◌∙◌, arith, rules, tests}
-use Rattle.std.specs.Str.{bytes_eq}
-use Rattle.std.proofs.lemmas.Slice.Eq.{bytes_eq-Decides}
-use Rattle.ct_token.specs.declared.token.Symbol.{Symbol}
+use Rattle.ct_problem.proofs.Base.{◌≡◌, ◌≢◌, ℕ, ◌==◌, Bool, true, false, List, [], ◌∷◌, Option, Some, None, refl, sym, ap, ◌∙◌, arith, rules, tests}
+use Rattle.ct_problem.proofs.Base.{bytes_eq, bytes_eq-Decides, Symbol, Token, slice, Input, next, spelling, Lexeme, Word, Number, Sign, Dots, LineEnd}
+use Rattle.ct_problem.proofs.Base.{lexeme_of, lexemes, decimal}
 use Rattle.ct_token.specs.declared.token.Symbol.TheVariants as symbol
-use Rattle.ct_token.specs.declared.token.Token.{Token}
-use Rattle.ct_token.specs.Lexing.{slice}
-use Rattle.ct_problem.specs.Input.{Input, next, spelling}
 use Rattle.ct_problem.specs.Input as input
-use Rattle.ct_problem.specs.Lexemes.{Lexeme, Word, Number, Sign, Dots, LineEnd, lexeme_of, lexemes, decimal}
 use Rattle.ct_problem.proofs.LexemeSteps.{shown, after_first, shown-next, shown-symbol}
 
 -- the symbol of the next token

@@ -1,8 +1,6 @@
 -- The bytes between two places, as the code cuts them.
-use Rattle.std.proofs.Common.{◌≡◌, ℕ, ◌-◌, ◌≤◌, min, Bool, true, false, List, length, take, drop, refl, sym, ap, ◌∙◌, arith, rules, tests, nat_le}
-use Rattle.std.proofs.lemmas.List.{take_all, drop_all}
-use Rattle.ct_token.specs.Lexing.{slice}
-use Rattle.ct_problem.specs.Input.{slice_of}
+use Rattle.ct_problem.proofs.Base.{◌≡◌, ℕ, ◌-◌, ◌≤◌, min, Bool, true, false, List, length, take, drop, refl, sym, ap, ◌∙◌, arith, rules, tests}
+use Rattle.ct_problem.proofs.Base.{nat_le, take_all, drop_all, slice, slice_of}
 
 take_least : (n : ℕ) (xs : List ℕ) → take (min n (length xs)) xs ≡ take n xs
 take_least n xs = by (nat_le n (length xs)) refl

@@ -1,30 +1,18 @@
 -- What is read as an atom is spelled so. Main lemma `Spells-atom`.
-use Rattle.std.proofs.Common.{◌≡◌, ◌≢◌, ℕ, ◌==◌, Bool, true, false, cond, List, [], ◌∷◌, Option, Some, None, Ok, IsTrue, pos, refl, sym, ap, ◌∙◌, subst, arith, rules, tests, codes}
+use Rattle.ct_problem.proofs.Base.{◌≡◌, ◌≢◌, ℕ, ◌==◌, Bool, true, false, cond, List, [], ◌∷◌, Option, Some, None, Ok, IsTrue, pos, refl, sym, ap, ◌∙◌}
+use Rattle.ct_problem.proofs.Base.{subst, arith, rules, tests, codes, bytes_eq, false≢true, bytes_eq-Decides, Symbol, Action, Shift, Derive}
+use Rattle.ct_problem.proofs.Base.{largest_norm, Expr, WrongKind, ZeroDenominator, Known, Variable, Let, Unknown, Input, Parser, ◌>>=◌, ◌>>◌, pure}
+use Rattle.ct_problem.proofs.Base.{fault, syntax, skip, next, eat, expect, sees_word, spelling, Names, known, acts_as, fault_if, name_by, name}
+use Rattle.ct_problem.proofs.Base.{acting_by, acting_word, acting, symbol_by, letter, word_by, word, whole, divisor, constant, atom_by, atom, Lexeme}
+use Rattle.ct_problem.proofs.Base.{Word, Sign, Texts, one, optional, number, ◌▸◌, IsAtom, IsActing}
+use Rattle.ct_problem.proofs.Frame.{joined_nothing, shown, shows_word, after_first, sees_word-shown, shown-symbol, Spelled, Spells, Continues}
+use Rattle.ct_problem.proofs.Frame.{Continues-pure, Continues-bind, Spells-bind, Spells-eat, Spells-expect, Spelled-as, moved, taken, after_taken}
+use Rattle.ct_problem.proofs.Frame.{Coming-taken, Spells-coming, test_failed}
 use Rattle.std.specs.List.{slice_get}
-use Rattle.std.specs.Str.{bytes_eq}
-use Rattle.std.proofs.lemmas.Bool.{false≢true}
-use Rattle.std.proofs.lemmas.Slice.Eq.{bytes_eq-Decides}
-use Rattle.ct_token.specs.declared.token.Symbol.{Symbol}
 use Rattle.ct_token.specs.declared.token.Symbol.TheVariants as symbol
-use Rattle.ct_algebra.specs.Actions.{Action, Shift, Derive}
-use Rattle.ct_checked.specs.Limits.{largest_norm}
-use Rattle.ct_expr.specs.declared.expr.Expr.{Expr}
 use Rattle.ct_expr.specs.declared.expr.Expr.TheVariants as e
-use Rattle.ct_problem.specs.declared.fault.BadKind.TheVariants.{WrongKind, ZeroDenominator}
-use Rattle.ct_problem.specs.declared.reading.names.Known.{Known}
-use Rattle.ct_problem.specs.declared.reading.names.Known.TheVariants.{Variable, Let, Unknown}
-use Rattle.ct_problem.specs.Input.{Input, Parser, ◌>>=◌, ◌>>◌, pure, fault, syntax, skip, next, eat, expect, sees_word, spelling}
 use Rattle.ct_problem.specs.Input as input
-use Rattle.ct_problem.specs.Names.{Names, known, acts_as}
-use Rattle.ct_problem.specs.Number.{fault_if}
-use Rattle.ct_problem.specs.Expressions.{name_by, name, acting_by, acting_word, acting, symbol_by, letter, word_by, word, whole, divisor, constant, atom_by, atom}
-use Rattle.ct_problem.specs.Lexemes.{Lexeme, Word, Sign, Texts, one, optional, number, ◌▸◌}
-use Rattle.ct_problem.specs.Grammar.{IsAtom, IsActing}
-use Rattle.ct_problem.proofs.JoinedTexts.{joined_nothing}
 use Rattle.ct_problem.proofs.KnownNames.{variable-known}
-use Rattle.ct_problem.proofs.LexemeSteps.{shown, shows_word, after_first, sees_word-shown, shown-symbol}
-use Rattle.ct_problem.proofs.Spelling.{Spelled, Spells, Continues, Continues-pure, Continues-bind, Spells-bind, Spells-eat, Spells-expect, Spelled-as, moved, taken, after_taken}
-use Rattle.ct_problem.proofs.SpelledSteps.{Coming-taken, Spells-coming, test_failed}
 
 -- a word that is none of this text
 other_word : (w : List ℕ) (i : Input) → input.symbol i ≡ Some symbol.Word → sees_word w i ≡ false → spelling i ≢ w

@@ -1,27 +1,18 @@
 -- What is read as `den` lines is spelled so. Main lemma `Goes-den_lines`.
-use Rattle.std.proofs.Common.{◌≡◌, ℕ, zero, suc, Bool, true, false, cond, max, List, [], ◌∷◌, ◌++◌, length, Option, Some, None, Ok, slice_get, refl, sym, ◌∙◌, subst, codes}
-use Rattle.ct_token.specs.declared.token.Symbol.{Symbol}
+use Rattle.ct_problem.proofs.Base.{◌≡◌, ℕ, zero, suc, Bool, true, false, cond, max, List, [], ◌∷◌, ◌++◌, length, Option, Some, None, Ok, slice_get}
+use Rattle.ct_problem.proofs.Base.{refl, sym, ◌∙◌, subst, codes, Symbol, Expr, WrongKind, Known, Variable, Let, Unknown, Dens, no_dens, is_given}
+use Rattle.ct_problem.proofs.Base.{with_den, is_summed_name, summed_by, summed_word, summed_name, once, den_line, den_lines, den_lines_from, Input}
+use Rattle.ct_problem.proofs.Base.{Parser, ◌>>=◌, ◌>>◌, pure, fault, look, place, skip, next, expect, spelling, sees_word, Lexeme, Word, nothing, one}
+use Rattle.ct_problem.proofs.Base.{◌▸◌, each, IsSummed, value, Names, known, summed_texts}
+use Rattle.ct_problem.proofs.Frame.{Follows-past, Follows-then, nothing_joined, shown, sees_word-shown, shown-symbol, Spelled, Spells, Spells-expect}
+use Rattle.ct_problem.proofs.Frame.{taken, after_taken, moved, shows_word-gives, Going, Goes, Goes-pure, Goes-as, Goes-bind, Goes-then, by_whole}
 use Rattle.ct_token.specs.declared.token.Symbol.TheVariants as symbol
-use Rattle.ct_expr.specs.declared.expr.Expr.{Expr}
-use Rattle.ct_problem.specs.declared.fault.BadKind.TheVariants.{WrongKind}
-use Rattle.ct_problem.specs.declared.reading.names.Known.{Known}
-use Rattle.ct_problem.specs.declared.reading.names.Known.TheVariants.{Variable, Let, Unknown}
-use Rattle.ct_problem.specs.DenLines.{Dens, no_dens, is_given, with_den, is_summed_name, summed_by, summed_word, summed_name, once, den_line, den_lines, den_lines_from}
-use Rattle.ct_problem.specs.Input.{Input, Parser, ◌>>=◌, ◌>>◌, pure, fault, look, place, skip, next, expect, spelling, sees_word}
 use Rattle.ct_problem.specs.Input as input
-use Rattle.ct_problem.specs.Lexemes.{Lexeme, Word, nothing, one, ◌▸◌, each}
 use Rattle.ct_problem.specs.GrammarProblem as grammar
-use Rattle.ct_problem.specs.GrammarProblem.{IsSummed, value}
 use Rattle.ct_problem.specs.Lines.{no_more}
 use Rattle.ct_problem.specs.Lines as read
-use Rattle.ct_problem.specs.Names.{Names, known, summed_texts}
-use Rattle.ct_problem.proofs.Following.{Follows-past, Follows-then}
-use Rattle.ct_problem.proofs.JoinedTexts.{nothing_joined}
 use Rattle.ct_problem.proofs.KnownNames.{variable-known}
-use Rattle.ct_problem.proofs.LexemeSteps.{shown, sees_word-shown, shown-symbol}
-use Rattle.ct_problem.proofs.Spelling.{Spelled, Spells, Spells-expect, taken, after_taken, moved, shows_word-gives}
 use Rattle.ct_problem.proofs.SpelledLines.{Goes-past_test, Goes-value}
-use Rattle.ct_problem.proofs.SpelledRuns.{Going, Goes, Goes-pure, Goes-as, Goes-bind, Goes-then, by_whole}
 
 module _ (names : Names) where
   -- ---- a summed name

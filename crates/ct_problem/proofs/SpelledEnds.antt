@@ -1,24 +1,12 @@
 -- What is read as the last line of a problem is spelled so. Main lemma `last_is`.
-use Rattle.std.proofs.Common.{◌≡◌, ℕ, Bool, true, false, cond, List, [], ◌∷◌, ◌++◌, length, Option, Some, None, Ok, IsTrue, refl, sym, ap, ◌∙◌, codes}
-use Rattle.std.proofs.lemmas.Bool.{false≢true}
-use Rattle.ct_io.specs.declared.command.Command.{Command}
-use Rattle.ct_io.specs.declared.command.Command.TheVariants.{Telescope, Check, Reduce, Test, Close, Member, Gen, Demo}
-use Rattle.ct_token.specs.declared.token.Symbol.{Symbol}
+use Rattle.ct_problem.proofs.Base.{◌≡◌, ℕ, Bool, true, false, cond, List, [], ◌∷◌, ◌++◌, length, Option, Some, None, Ok, IsTrue, refl, sym, ap, ◌∙◌}
+use Rattle.ct_problem.proofs.Base.{codes, false≢true, Command, Telescope, Check, Reduce, Test, Close, Member, Gen, Demo, Symbol, Token, is_line_end}
+use Rattle.ct_problem.proofs.Base.{slice, Missing, Input, ◌>>=◌, ◌>>◌, pure, skip, syntax, spelling_in, fresh_line, fresh_by, has_line_end, sees_word}
+use Rattle.ct_problem.proofs.Base.{is_word, IsEnd, MayFollow, Lexeme, Word, lexeme_of, lexemes, fault_if, Reading, lacks, has_needs, ending}
+use Rattle.ct_problem.proofs.Base.{ending_by, nothing_left, trailing_by, behind_end, last_line}
+use Rattle.ct_problem.proofs.Frame.{sees_word-shown, Settled, shows_word-gives, test_failed}
 use Rattle.ct_token.specs.declared.token.Symbol.TheVariants as symbol
-use Rattle.ct_token.specs.declared.token.Token.{Token}
-use Rattle.ct_token.specs.Lexical.{is_line_end}
-use Rattle.ct_token.specs.Lexing.{slice}
-use Rattle.ct_problem.specs.declared.fault.BadKind.TheVariants.{Missing}
-use Rattle.ct_problem.specs.Input.{Input, ◌>>=◌, ◌>>◌, pure, skip, syntax, spelling_in, fresh_line, fresh_by, has_line_end, sees_word, is_word}
-use Rattle.ct_problem.specs.GrammarProblem.{IsEnd, MayFollow}
-use Rattle.ct_problem.specs.Lexemes.{Lexeme, Word, lexeme_of, lexemes}
-use Rattle.ct_problem.specs.Number.{fault_if}
-use Rattle.ct_problem.specs.ReadProblem.{Reading, lacks, has_needs, ending, ending_by, nothing_left, trailing_by, behind_end, last_line}
-use Rattle.ct_problem.proofs.LexemeSteps.{sees_word-shown}
 use Rattle.ct_problem.proofs.NewNames.{not_false}
-use Rattle.ct_problem.proofs.Following.{Settled}
-use Rattle.ct_problem.proofs.Spelling.{shows_word-gives}
-use Rattle.ct_problem.proofs.SpelledSteps.{test_failed}
 
 -- the cursor at these tokens
 at : List ℕ → List Token → Option ℕ → Input

@@ -1,22 +1,15 @@
 -- What is read as an expression is spelled so. Main lemma `Spells-expression`, rule by rule.
-use Rattle.std.proofs.Common.{◌≡◌, ℕ, zero, suc, ◌||◌, Bool, true, false, cond, List, [], ◌∷◌, ◌++◌, length, map, Option, Some, None, Ok, Err, refl, sym, ap, ◌∙◌, subst}
-use Rattle.std.specs.Option.{is_none}
-use Rattle.std.proofs.lemmas.Bool.{false≢true}
-use Rattle.std.proofs.lemmas.List.{append_assoc, append-nil}
+use Rattle.ct_problem.proofs.Base.{◌≡◌, ℕ, zero, suc, ◌||◌, Bool, true, false, cond, List, [], ◌∷◌, ◌++◌, length, map, Option, Some, None, Ok, Err}
+use Rattle.ct_problem.proofs.Base.{refl, sym, ap, ◌∙◌, subst, is_none, false≢true, append_assoc, append-nil, Token, Expr, Summand, Input, Outcome}
+use Rattle.ct_problem.proofs.Base.{Parser, ◌>>=◌, ◌>>◌, ◌<$>◌, and_then, pure, next, past, eat, expect, sees, Names, joint, is_minus, joins, term}
+use Rattle.ct_problem.proofs.Base.{summands_from, summands, sum, nested, expression, Lexeme, Sign, Texts, nothing, one, optional, ◌▸◌, each, Term}
+use Rattle.ct_problem.proofs.Base.{IsTerm, IsSum, IsNested, IsMoreTerm, IsExpression}
+use Rattle.ct_problem.proofs.Frame.{shown-symbol, joined, nothing_joined, to_nothing, Spelled, Spells, Continues, Continues-pure, Continues-last}
+use Rattle.ct_problem.proofs.Frame.{Continues-bind, Spells-pure, Spells-bind, Spells-eat, Spells-expect, moved, after_taken, Spelled-then}
 use Rattle.ct_token.specs.declared.token.Symbol.TheVariants as symbol
-use Rattle.ct_token.specs.declared.token.Token.{Token}
-use Rattle.ct_expr.specs.declared.expr.Expr.{Expr}
 use Rattle.ct_expr.specs.declared.expr.Expr.TheVariants as e
-use Rattle.ct_expr.specs.declared.expr.Summand.{Summand}
-use Rattle.ct_problem.specs.Input.{Input, Outcome, Parser, ◌>>=◌, ◌>>◌, ◌<$>◌, and_then, pure, next, past, eat, expect, sees}
 use Rattle.ct_problem.specs.Input as input
-use Rattle.ct_problem.specs.Names.{Names}
-use Rattle.ct_problem.specs.Expressions.{summand, joint, is_minus, joins, term, summands_from, summands, sum, nested, expression}
-use Rattle.ct_problem.specs.Lexemes.{Lexeme, Sign, Texts, nothing, one, optional, ◌▸◌, each}
-use Rattle.ct_problem.specs.Grammar.{Term, IsTerm, IsSum, IsNested, IsMoreTerm, IsExpression}
-use Rattle.ct_problem.proofs.LexemeSteps.{shown-symbol}
-use Rattle.ct_problem.proofs.JoinedTexts.{joined, nothing_joined, to_nothing}
-use Rattle.ct_problem.proofs.Spelling.{Spelled, Spells, Continues, Continues-pure, Continues-last, Continues-bind, Spells-pure, Spells-bind, Spells-eat, Spells-expect, moved, after_taken, Spelled-then}
+use Rattle.ct_problem.specs.Expressions.{summand}
 use Rattle.ct_problem.proofs.SpelledTerms.{Spells-term}
 
 module _ (names : Names) (operators : Bool) where

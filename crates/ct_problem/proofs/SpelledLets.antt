@@ -1,35 +1,22 @@
 -- What is read as `let` lines is spelled so. Main lemma `Goes-let_lines`.
-use Rattle.std.proofs.Common.{◌≡◌, ℕ, zero, suc, ◌≤◌, Bool, true, false, cond, List, [], ◌∷◌, ◌++◌, length, Option, Some, None, Ok, refl, sym, ap, ◌∙◌, subst, arith, codes}
-use Rattle.std.specs.List.{position}
-use Rattle.std.specs.Str.{bytes_eq}
-use Rattle.std.proofs.lemmas.List.{append_assoc}
-use Rattle.ct_token.specs.declared.token.Symbol.{Symbol}
+use Rattle.ct_problem.proofs.Base.{◌≡◌, ℕ, zero, suc, ◌≤◌, Bool, true, false, cond, List, [], ◌∷◌, ◌++◌, length, Option, Some, None, Ok, refl, sym}
+use Rattle.ct_problem.proofs.Base.{ap, ◌∙◌, subst, arith, codes, position, bytes_eq, append_assoc, Symbol, Naming, Expr, TooMany, LetForm, LetWord}
+use Rattle.ct_problem.proofs.Base.{Plus, Product, Apply, Known, Variable, Let, Unknown, Input, ◌>>=◌, ◌>>◌, pure, skip, next, peek, eat, eat_word}
+use Rattle.ct_problem.proofs.Base.{expect, line_end, spelling, sees_word, with_definitions, begins_expression, list_by, list_word, list_name}
+use Rattle.ct_problem.proofs.Base.{one_too_many, listed_from, two_lists, applied, form_by, let_word, form_of_word, let_form, definition, let_lines}
+use Rattle.ct_problem.proofs.Base.{let_lines_from, Lexeme, Word, Sign, Texts, nothing, one, optional, ◌▸◌, each, IsExpression, IsList, Names}
+use Rattle.ct_problem.proofs.Base.{is_named, known, known_by, fault_if}
+use Rattle.ct_problem.proofs.Frame.{replaced, joined_to_left, joined_to_right, shown, sees_word-shown, shown-symbol, Spelled, Spells, Continues}
+use Rattle.ct_problem.proofs.Frame.{Spells-bind, Spells-expect, Spells-eat, Continues-pure, Continues-bind, Continues-last, taken, after_taken, moved}
+use Rattle.ct_problem.proofs.Frame.{shows_word-gives, Goes, Goes-pure, Goes-bind, Goes-then, Goes-line_end}
 use Rattle.ct_token.specs.declared.token.Symbol.TheVariants as symbol
-use Rattle.ct_ore.specs.Naming.{Naming}
-use Rattle.ct_expr.specs.declared.expr.Expr.{Expr}
-use Rattle.ct_problem.specs.declared.fault.BadKind.TheVariants.{TooMany}
-use Rattle.ct_problem.specs.declared.problem.LetForm.{LetForm}
 use Rattle.ct_problem.specs.declared.problem.LetForm.TheVariants as form
-use Rattle.ct_problem.specs.declared.reading.let_lines.LetWord.{LetWord}
-use Rattle.ct_problem.specs.declared.reading.let_lines.LetWord.TheVariants.{Gens, Plus, Product, Apply}
-use Rattle.ct_problem.specs.declared.reading.names.Known.{Known}
-use Rattle.ct_problem.specs.declared.reading.names.Known.TheVariants.{Variable, Let, Unknown}
-use Rattle.ct_problem.specs.Input.{Input, ◌>>=◌, ◌>>◌, pure, skip, next, peek, eat, eat_word, expect, line_end, spelling, sees_word}
+use Rattle.ct_problem.specs.declared.reading.let_lines.LetWord.TheVariants.{Gens}
 use Rattle.ct_problem.specs.Input as input
-use Rattle.ct_problem.specs.LetLines.{with_definitions, begins_expression, list_by, list_word, list_name, one_too_many, listed_from, two_lists, applied, form_by, let_word, form_of_word, let_form, definition, let_lines, let_lines_from}
-use Rattle.ct_problem.specs.Lexemes.{Lexeme, Word, Sign, Texts, nothing, one, optional, ◌▸◌, each}
-use Rattle.ct_problem.specs.Grammar.{IsExpression}
 use Rattle.ct_problem.specs.GrammarLets as lets
-use Rattle.ct_problem.specs.GrammarLets.{IsList}
-use Rattle.ct_problem.specs.Names.{Names, is_named, known, known_by}
-use Rattle.ct_problem.specs.Number.{fault_if}
-use Rattle.ct_problem.proofs.JoinedTexts.{replaced, joined_to_left, joined_to_right}
-use Rattle.ct_problem.proofs.LexemeSteps.{shown, sees_word-shown, shown-symbol}
-use Rattle.ct_problem.proofs.Spelling.{Spelled, Spells, Continues, Spells-bind, Spells-expect, Spells-eat, Continues-pure, Continues-bind, Continues-last, taken, after_taken, moved, shows_word-gives}
 use Rattle.ct_problem.proofs.SpelledExpressions.{Spells-expression}
 use Rattle.ct_problem.proofs.SpelledLists.{Goes-all, Goes-key_lines}
 use Rattle.ct_problem.proofs.SpelledNames.{Spells-new_name}
-use Rattle.ct_problem.proofs.SpelledRuns.{Goes, Goes-pure, Goes-bind, Goes-then, Goes-line_end}
 
 -- ---- lists by their names
 

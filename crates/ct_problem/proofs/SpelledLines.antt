@@ -1,19 +1,11 @@
 -- What is read as a line, or as a list of lines, is spelled so.
-use Rattle.std.proofs.Common.{ℕ, Bool, true, false, List, arith, codes}
-use Rattle.ct_problem.specs.declared.fault.BadKind.TheVariants.{TooMany}
-use Rattle.ct_problem.specs.Input.{Parser, ◌>>◌, pure, sees_word, line_end}
-use Rattle.ct_problem.specs.Number.{fault_if}
+use Rattle.ct_problem.proofs.Base.{ℕ, Bool, true, false, List, arith, codes, TooMany, Parser, ◌>>◌, pure, sees_word, line_end, fault_if, Names}
+use Rattle.ct_problem.proofs.Base.{Lexeme, LineEnd, Texts, nothing, one, ◌▸◌, IsExpression, header, value, keyed, part}
+use Rattle.ct_problem.proofs.Frame.{Spells-expect, Spells-expect_word, Spells-exactly, Goes, Goes-pure, Goes-look, Goes-fault, Goes-as, Goes-bind}
+use Rattle.ct_problem.proofs.Frame.{Goes-whole, Goes-begin, Goes-then, Goes-line_end}
 use Rattle.ct_problem.specs.Lines as read
-use Rattle.ct_problem.specs.Names.{Names}
 use Rattle.ct_problem.specs.ReportLines as rules
-use Rattle.ct_problem.specs.Lexemes.{Lexeme, LineEnd, Texts, nothing, one, ◌▸◌}
-use Rattle.ct_problem.specs.Grammar.{IsExpression}
-use Rattle.ct_problem.specs.GrammarProblem.{header, value, keyed}
-use Rattle.ct_problem.specs.GrammarReport.{part}
-use Rattle.ct_problem.proofs.Spelling.{Spells-expect, Spells-expect_word}
-use Rattle.ct_problem.proofs.SpelledSteps.{Spells-exactly}
 use Rattle.ct_problem.proofs.SpelledExpressions.{Spells-expression}
-use Rattle.ct_problem.proofs.SpelledRuns.{Goes, Goes-pure, Goes-look, Goes-fault, Goes-as, Goes-bind, Goes-whole, Goes-begin, Goes-then, Goes-line_end}
 
 pub Goes-header : (kind : List ℕ) → Goes nothing (read.header kind) (λ _. header kind)
 unfolding read.header

@@ -2,17 +2,12 @@
 --     More B found xs ls   xs are the values found before, and more, for which ls stand by B
 --     Goes-found, Goes-one, Goes-all    the list ends; one value more; the whole, where none was found before
 --     Goes-key_lines       at most so many lines that begin with a word
-use Rattle.std.proofs.Common.{◌≡◌, ℕ, ◌≤◌, zero, suc, Bool, true, false, cond, List, [], ◌∷◌, ◌++◌, length, arith, refl, sym, ◌∙◌, subst}
-use Rattle.std.proofs.lemmas.List.{append_assoc, append-nil}
-use Rattle.ct_problem.specs.Input.{Parser, ◌>>=◌, ◌>>◌, pure, eat_word}
-use Rattle.ct_problem.specs.Lines.{no_more, value_lines, value_lines_from}
+use Rattle.ct_problem.proofs.Base.{◌≡◌, ℕ, ◌≤◌, zero, suc, Bool, true, false, cond, List, [], ◌∷◌, ◌++◌, length, arith, refl, sym, ◌∙◌, subst}
+use Rattle.ct_problem.proofs.Base.{append_assoc, append-nil, Parser, ◌>>=◌, ◌>>◌, pure, eat_word, value_lines, value_lines_from, Names, keyed, values}
+use Rattle.ct_problem.proofs.Base.{Lexeme, Word, Texts, nothing, one, optional, ◌▸◌, each}
+use Rattle.ct_problem.proofs.Frame.{nothing_joined, replaced, Spells-eat_word, Goes, Goes-pure, Goes-as, Goes-whole, Goes-begin}
+use Rattle.ct_problem.specs.Lines.{no_more}
 use Rattle.ct_problem.specs.Lines as read
-use Rattle.ct_problem.specs.Names.{Names}
-use Rattle.ct_problem.specs.GrammarProblem.{keyed, values}
-use Rattle.ct_problem.specs.Lexemes.{Lexeme, Word, Texts, nothing, one, optional, ◌▸◌, each}
-use Rattle.ct_problem.proofs.JoinedTexts.{nothing_joined, replaced}
-use Rattle.ct_problem.proofs.Spelling.{Spells-eat_word}
-use Rattle.ct_problem.proofs.SpelledRuns.{Goes, Goes-pure, Goes-as, Goes-whole, Goes-begin}
 use Rattle.ct_problem.proofs.SpelledLines.{Goes-past_test, Goes-value}
 
 module _ {X : Type 0} where

@@ -1,33 +1,23 @@
 -- What is read as the lines of names is spelled so. Main lemma `Goes-declarations`.
-use Rattle.std.proofs.Common.{◌≡◌, ℕ, zero, suc, ◌≤◌, Bool, true, false, not, cond, List, [], ◌∷◌, ◌++◌, length, nat_lt, Option, Some, None, Ok, refl, sym, ap, ◌∙◌, subst, codes, arith, ltb-false}
-use Rattle.std.proofs.lemmas.Bool.{false≢true}
-use Rattle.ct_token.specs.declared.token.Symbol.{Symbol}
+use Rattle.ct_problem.proofs.Base.{◌≡◌, ℕ, zero, suc, ◌≤◌, Bool, true, false, not, cond, List, [], ◌∷◌, ◌++◌, length, nat_lt, Option, Some, None, Ok}
+use Rattle.ct_problem.proofs.Base.{refl, sym, ap, ◌∙◌, subst, codes, arith, ltb-false, false≢true, Symbol, Action, Shift, Derive, Still, Naming}
+use Rattle.ct_problem.proofs.Base.{TooMany, Syntax, NameTooLong, DuplicateName, NameLine, Free, Sum, Int, Param, Input, Outcome, Parser, ◌>>=◌, ◌>>◌}
+use Rattle.ct_problem.proofs.Base.{and_then, pure, peek, skip, next, eat_word, expect_word, line_end, spelling, sees_word, name_line, spelled_word}
+use Rattle.ct_problem.proofs.Base.{new_name, free_action, action_of_line, role_of_line, is_full, declared, declaration, declarations_by, full_by}
+use Rattle.ct_problem.proofs.Base.{declarations_from, some_names, declarations, Names, is_new, fault_if, Lexeme, Word, LineEnd, Texts, nothing, one}
+use Rattle.ct_problem.proofs.Base.{optional, ◌▸◌, IsDeclarable, AreFew}
+use Rattle.ct_problem.proofs.Frame.{Follows-past, Follows-then, nothing_joined, shown, after_first, sees_word-shown, shown-symbol, Spells, Continues}
+use Rattle.ct_problem.proofs.Frame.{Spells-bind, Spells-eat_word, Spells-expect_word, Continues-pure, Continues-bind, taken, after_taken, moved}
+use Rattle.ct_problem.proofs.Frame.{shows_word-gives, first_read, test_failed, Going, Goes, Goes-pure, Goes-fault, Goes-fault_if, Goes-seen}
+use Rattle.ct_problem.proofs.Frame.{Goes-bind, Goes-whole, Goes-then, Goes-line_end, by_whole}
 use Rattle.ct_token.specs.declared.token.Symbol.TheVariants as symbol
-use Rattle.ct_algebra.specs.Actions.{Action, Shift, Derive, Still}
-use Rattle.ct_ore.specs.Naming.{Naming}
-use Rattle.ct_problem.specs.declared.fault.BadKind.TheVariants.{TooMany, Syntax, NameTooLong, DuplicateName}
-use Rattle.ct_problem.specs.declared.reading.declarations.NameLine.{NameLine}
-use Rattle.ct_problem.specs.declared.reading.declarations.NameLine.TheVariants.{Free, Sum, Int, Param}
-use Rattle.ct_problem.specs.Input.{Input, Outcome, Parser, ◌>>=◌, ◌>>◌, and_then, pure, peek, skip, next, eat_word, expect_word, line_end, spelling, sees_word}
 use Rattle.ct_problem.specs.Input as input
-use Rattle.ct_problem.specs.Declarations.{name_line, spelled_word, new_name, free_action, action_of_line, role_of_line, is_full, declared, declaration, declarations_by, full_by, declarations_from, some_names, declarations}
-use Rattle.ct_problem.specs.Names.{Names, is_new}
-use Rattle.ct_problem.specs.Number.{fault_if}
-use Rattle.ct_problem.specs.Lexemes.{Lexeme, Word, LineEnd, Texts, nothing, one, optional, ◌▸◌}
 use Rattle.ct_problem.specs.GrammarLets as lets
-use Rattle.ct_problem.specs.GrammarLets.{IsDeclarable}
 use Rattle.ct_problem.specs.GrammarProblem as grammar
-use Rattle.ct_problem.specs.GrammarProblem.{AreFew}
 use Rattle.ct_problem.proofs.AlgebraNames.{summed_count}
 use Rattle.ct_problem.proofs.NameRooms.{HasRoom, Rooms, rooms_fit, room_is}
-use Rattle.ct_problem.proofs.Following.{Follows-past, Follows-then}
-use Rattle.ct_problem.proofs.JoinedTexts.{nothing_joined}
-use Rattle.ct_problem.proofs.LexemeSteps.{shown, after_first, sees_word-shown, shown-symbol}
 use Rattle.ct_problem.proofs.NewNames.{not_false}
-use Rattle.ct_problem.proofs.Spelling.{Spells, Continues, Spells-bind, Spells-eat_word, Spells-expect_word, Continues-pure, Continues-bind, taken, after_taken, moved, shows_word-gives}
-use Rattle.ct_problem.proofs.SpelledSteps.{first_read, test_failed}
 use Rattle.ct_problem.proofs.SpelledLists.{More, Goes-found, Goes-one, Goes-all}
-use Rattle.ct_problem.proofs.SpelledRuns.{Going, Goes, Goes-pure, Goes-fault, Goes-fault_if, Goes-seen, Goes-bind, Goes-whole, Goes-then, Goes-line_end, by_whole}
 
 -- ---- a name that is declared
 

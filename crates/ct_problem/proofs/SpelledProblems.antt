@@ -1,31 +1,19 @@
 -- What is read as the lines of a problem before the last one is spelled so. Main lemmas `Goes-head` and `Goes-body`.
-use Rattle.std.proofs.Common.{ℕ, ◌≤◌, Bool, true, false, cond, List, [], ◌∷◌, nat_lt, Option, Some, None, codes, ltb-false}
-use Rattle.ct_ore.specs.Naming.{Naming}
-use Rattle.ct_expr.specs.declared.expr.Expr.{Expr}
-use Rattle.ct_problem.specs.declared.fault.BadKind.TheVariants.{OutOfRange, EmptyRange}
-use Rattle.ct_problem.specs.declared.problem.Gens.{Gens}
-use Rattle.ct_problem.specs.declared.problem.Gens.TheVariants.{Listed, Named}
-use Rattle.ct_problem.specs.declared.problem.Range.{Range}
-use Rattle.ct_problem.specs.Input.{◌>>=◌, ◌>>◌, pure, skip, next, line_end}
+use Rattle.ct_problem.proofs.Base.{ℕ, ◌≤◌, Bool, true, false, cond, List, [], ◌∷◌, nat_lt, Option, Some, None, codes, ltb-false, Naming, Expr}
+use Rattle.ct_problem.proofs.Base.{OutOfRange, EmptyRange, Gens, Listed, Named, Range, ◌>>=◌, ◌>>◌, pure, skip, next, line_end, AreFew, Definition}
+use Rattle.ct_problem.proofs.Base.{with_definitions, Lexeme, Word, LineEnd, Texts, nothing, one, optional, number, ◌▸◌, Names, fault_if, used}
+use Rattle.ct_problem.proofs.Base.{listed_or_used, generators, high_number, range, range_line, Reading, head, body}
+use Rattle.ct_problem.proofs.Frame.{joined_nothing, replaced, nothing_joined, on_first, on_second, Spells, Spells-bind, Spells-eat_word}
+use Rattle.ct_problem.proofs.Frame.{Continues-pure, Continues-bind, moved, Goes, Goes-pure, Goes-bind, Goes-whole, Goes-begin, Goes-then}
+use Rattle.ct_problem.proofs.Frame.{Goes-line_end, Goes-fresh_line, test_failed, Coming-taken, Spells-coming, Spells-dots, Spells-number}
 use Rattle.ct_problem.specs.GrammarLets as lets
 use Rattle.ct_problem.specs.GrammarProblem as grammar
-use Rattle.ct_problem.specs.GrammarProblem.{AreFew}
-use Rattle.ct_problem.specs.LetLines.{Definition, with_definitions}
-use Rattle.ct_problem.specs.Lexemes.{Lexeme, Word, LineEnd, Texts, nothing, one, optional, number, ◌▸◌}
 use Rattle.ct_problem.specs.Lines.{no_more}
-use Rattle.ct_problem.specs.Names.{Names}
-use Rattle.ct_problem.specs.Number.{fault_if}
-use Rattle.ct_problem.specs.ProblemLines.{used, listed_or_used, generators, high_number, range, range_line}
-use Rattle.ct_problem.specs.ReadProblem.{Reading, head, body}
-use Rattle.ct_problem.proofs.JoinedTexts.{joined_nothing, replaced, nothing_joined, on_first, on_second}
-use Rattle.ct_problem.proofs.Spelling.{Spells, Spells-bind, Spells-eat_word, Continues-pure, Continues-bind, moved}
 use Rattle.ct_problem.proofs.SpelledDens.{Goes-den_lines}
 use Rattle.ct_problem.proofs.SpelledLets.{Spells-list_name, Goes-let_lines}
 use Rattle.ct_problem.proofs.SpelledLines.{Goes-header, Goes-past_test}
 use Rattle.ct_problem.proofs.SpelledLists.{Goes-value_lines}
 use Rattle.ct_problem.proofs.SpelledNames.{Goes-declarations}
-use Rattle.ct_problem.proofs.SpelledRuns.{Goes, Goes-pure, Goes-bind, Goes-whole, Goes-begin, Goes-then, Goes-line_end, Goes-fresh_line}
-use Rattle.ct_problem.proofs.SpelledSteps.{test_failed, Coming-taken, Spells-coming, Spells-dots, Spells-number}
 
 -- ---- generators
 

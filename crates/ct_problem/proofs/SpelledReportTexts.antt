@@ -1,33 +1,17 @@
 -- A text that is read as a report stands for it. Main lemma `report_spelled`, which `read_found_report` cites.
-use Rattle.std.proofs.Common.{◌≡◌, ℕ, ◌+◌, ◌≤◌, Bool, true, false, cond, List, [], ◌∷◌, ◌++◌, length, drop, Some, None, Ok, Err, refl, sym, ap, ◌∙◌, subst, codes}
-use Rattle.std.proofs.lemmas.List.{append_assoc, append-nil}
-use Rattle.ct_checked.specs.Limits.{largest_norm}
-use Rattle.ct_token.specs.Lexical.{scan_of}
-use Rattle.ct_token.specs.declared.token.Symbol.{Symbol}
+use Rattle.ct_problem.proofs.Base.{◌≡◌, ℕ, ◌+◌, ◌≤◌, Bool, true, false, cond, List, [], ◌∷◌, ◌++◌, length, drop, Some, None, Ok, Err, refl, sym, ap}
+use Rattle.ct_problem.proofs.Base.{◌∙◌, subst, codes, append_assoc, append-nil, largest_norm, scan_of, Symbol, Token, slice, Naming, Report, declared}
+use Rattle.ct_problem.proofs.Base.{Input, Outcome, Parser, ◌>>=◌, ◌>>◌, pure, line_end, expect_word, Names, summed_texts, Lexeme, Word, LineEnd}
+use Rattle.ct_problem.proofs.Base.{Texts, nothing, ◌▸◌, lexeme_of, lexemes, header, keyed, ReportStandsFor, quotient, part, cofactors, each_with}
+use Rattle.ct_problem.proofs.Base.{is_plain, input_of_scan, found, report_of}
+use Rattle.ct_problem.proofs.Frame.{Goes_on, Follows, Follows-same, Follows-then, used-taken, joined, nothing_joined, on_first, replaced, shown}
+use Rattle.ct_problem.proofs.Frame.{Spelled, Spells-expect_word, Goes, goes_on_before, first_read, LineEnded, line_end-gives}
 use Rattle.ct_token.specs.declared.token.Symbol.TheVariants as symbol
-use Rattle.ct_token.specs.declared.token.Token.{Token}
-use Rattle.ct_token.specs.Lexing.{slice}
-use Rattle.ct_ore.specs.Naming.{Naming}
-use Rattle.ct_problem.specs.declared.report.Report.{Report}
-use Rattle.ct_problem.specs.Declarations.{declared}
-use Rattle.ct_problem.specs.Input.{Input, Outcome, Parser, ◌>>=◌, ◌>>◌, pure, line_end, expect_word}
-use Rattle.ct_problem.specs.Names.{Names, summed_texts}
 use Rattle.ct_problem.specs.Lines as read
-use Rattle.ct_problem.specs.Lexemes.{Lexeme, Word, LineEnd, Texts, nothing, ◌▸◌, lexeme_of, lexemes}
-use Rattle.ct_problem.specs.GrammarProblem.{header, keyed}
 use Rattle.ct_problem.specs.GrammarReport as grammar
-use Rattle.ct_problem.specs.GrammarReport.{ReportStandsFor, quotient, part, cofactors, each_with, last_line}
-use Rattle.ct_problem.specs.Plain.{is_plain}
-use Rattle.ct_problem.specs.ReadProblem.{input_of_scan}
-use Rattle.ct_problem.specs.ReadReport.{found, report_of}
+use Rattle.ct_problem.specs.GrammarReport.{last_line}
 use Rattle.ct_problem.specs.ReportLines as rules
-use Rattle.ct_problem.proofs.Following.{Goes_on, Follows, Follows-same, Follows-then, used-taken}
-use Rattle.ct_problem.proofs.JoinedTexts.{joined, nothing_joined, on_first, replaced}
-use Rattle.ct_problem.proofs.LexemeSteps.{shown}
-use Rattle.ct_problem.proofs.Spelling.{Spelled, Spells-expect_word}
 use Rattle.ct_problem.proofs.SpelledLines.{Goes-header, Goes-keyed}
-use Rattle.ct_problem.proofs.SpelledRuns.{Goes, goes_on_before}
-use Rattle.ct_problem.proofs.SpelledSteps.{first_read, LineEnded, line_end-gives}
 use Rattle.ct_problem.proofs.SpelledReports.{AreCofactors, Goes-found_line, Goes-quotients, Goes-factors, Goes-cofactors}
 use Rattle.ct_problem.proofs.PlainEnds.{plain_is_lexical, no_word_is_last}
 

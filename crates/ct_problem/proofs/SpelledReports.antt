@@ -1,20 +1,13 @@
 -- What is read as the lines of a report before the last one is spelled so. Main lemma `Goes-report_lines`.
-use Rattle.std.proofs.Common.{◌≡◌, ℕ, zero, suc, ◌+◌, ◌≤◌, true, false, List, [], ◌∷◌, ◌++◌, length, refl, ap, arith, codes}
-use Rattle.ct_checked.specs.Limits.{largest_norm}
-use Rattle.ct_expr.specs.declared.expr.Expr.{Expr}
-use Rattle.ct_problem.specs.declared.fault.BadKind.TheVariants.{OutOfRange}
-use Rattle.ct_problem.specs.declared.report.Quotient.{Quotient}
+use Rattle.ct_problem.proofs.Base.{◌≡◌, ℕ, zero, suc, ◌+◌, ◌≤◌, true, false, List, [], ◌∷◌, ◌++◌, length, refl, ap, arith, codes, largest_norm, Expr}
+use Rattle.ct_problem.proofs.Base.{OutOfRange, Quotient, Names, Texts, nothing, number, part, quotient, cofactor, cofactors, each_with, numbered}
+use Rattle.ct_problem.proofs.Base.{found_line}
+use Rattle.ct_problem.proofs.Frame.{replaced, Spells, Spells-bind, Spells-expect, Spells-expect_word, Continues-last, Goes, Goes-pure, Goes-as}
+use Rattle.ct_problem.proofs.Frame.{Goes-bind, Goes-whole, Goes-begin, Goes-then, Goes-line_end, Spells-number, Spells-exactly}
 use Rattle.ct_problem.specs.Number as digits
-use Rattle.ct_problem.specs.Names.{Names}
 use Rattle.ct_problem.specs.ReportLines as rules
-use Rattle.ct_problem.specs.Lexemes.{Texts, nothing, number}
-use Rattle.ct_problem.specs.GrammarReport.{part, quotient, cofactor, cofactors, each_with, numbered, found_line}
-use Rattle.ct_problem.proofs.JoinedTexts.{replaced}
-use Rattle.ct_problem.proofs.Spelling.{Spells, Spells-bind, Spells-expect, Spells-expect_word, Continues-last}
 use Rattle.ct_problem.proofs.SpelledLines.{Goes-value, Goes-part}
 use Rattle.ct_problem.proofs.SpelledLists.{More, Goes-found, Goes-one, Goes-all}
-use Rattle.ct_problem.proofs.SpelledRuns.{Goes, Goes-pure, Goes-as, Goes-bind, Goes-whole, Goes-begin, Goes-then, Goes-line_end}
-use Rattle.ct_problem.proofs.SpelledSteps.{Spells-number, Spells-exactly}
 
 Spells-numbered : (key : List ℕ) → Spells (rules.numbered key) (numbered key)
 Spells-numbered key =

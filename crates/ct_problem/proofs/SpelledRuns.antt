@@ -3,13 +3,9 @@
 --     Goes D p L      the lexemes before, which are of D, and those that p takes are of L x for the value x that it gives, where
 --                     tokens are left behind them
 --     Goes-bind and others  the steps that every rule is made of
-use Rattle.std.proofs.Common.{◌≡◌, Bool, true, false, List, [], ◌∷◌, ◌++◌, Ok, Err, refl, sym, ap, ◌∙◌, subst}
-use Rattle.std.proofs.lemmas.List.{append_assoc, append-nil}
-use Rattle.ct_token.specs.declared.token.Token.{Token}
-use Rattle.ct_problem.specs.declared.fault.BadKind.{BadKind}
-use Rattle.ct_problem.specs.Input.{Input, Outcome, Parser, ◌>>=◌, ◌>>◌, and_then, pure, look, fault, fresh_line, line_end}
-use Rattle.ct_problem.specs.Lexemes.{Lexeme, LineEnd, Texts, nothing, one, ◌▸◌}
-use Rattle.ct_problem.specs.Number.{fault_if}
+use Rattle.ct_problem.proofs.Base.{◌≡◌, Bool, true, false, List, [], ◌∷◌, ◌++◌, Ok, Err, refl, sym, ap, ◌∙◌, subst, append_assoc, append-nil, Token}
+use Rattle.ct_problem.proofs.Base.{BadKind, Input, Outcome, Parser, ◌>>=◌, ◌>>◌, and_then, pure, look, fault, fresh_line, line_end, Lexeme, LineEnd}
+use Rattle.ct_problem.proofs.Base.{Texts, nothing, one, ◌▸◌, fault_if}
 use Rattle.ct_problem.proofs.Following.{Goes_on, Follows, Follows-same, Follows-then, fresh_line-settles}
 use Rattle.ct_problem.proofs.JoinedTexts.{joined, nothing_joined}
 use Rattle.ct_problem.proofs.LexemeSteps.{shown}

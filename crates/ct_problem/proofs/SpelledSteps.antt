@@ -2,18 +2,13 @@
 --     line_end-gives      the end of a line, or of the text
 --     Coming i j n        a number of this value comes next, and stays
 --     Spells-coming       the rule of what is done with such a number
-use Rattle.std.proofs.Common.{◌≡◌, ℕ, ◌≤◌, ◌==◌, Bool, true, false, cond, List, [], ◌∷◌, Option, Some, None, Ok, Err, refl, sym, ap, ◌∙◌, subst, arith, rules, tests, nat_lt, ltb-false}
-use Rattle.ct_token.specs.declared.token.Symbol.{Symbol}
+use Rattle.ct_problem.proofs.Base.{◌≡◌, ℕ, ◌≤◌, ◌==◌, Bool, true, false, cond, List, [], ◌∷◌, Option, Some, None, Ok, Err, refl, sym, ap, ◌∙◌, subst}
+use Rattle.ct_problem.proofs.Base.{arith, rules, tests, nat_lt, ltb-false, Symbol, Token, largest_norm, BadKind, NumberTooLarge, Input, Outcome}
+use Rattle.ct_problem.proofs.Base.{Parser, ◌>>=◌, ◌>>◌, and_then, pure, syntax, skip, next, line_end, line_end_by, fresh_line, fresh_by, has_line_end}
+use Rattle.ct_problem.proofs.Base.{dots, dots_by, spelling, fault_if, coming_number, Number, Dots, LineEnd, Texts, one, number, decimal}
 use Rattle.ct_token.specs.declared.token.Symbol.TheVariants as symbol
-use Rattle.ct_token.specs.declared.token.Token.{Token}
-use Rattle.ct_checked.specs.Limits.{largest_norm}
-use Rattle.ct_problem.specs.declared.fault.BadKind.{BadKind}
-use Rattle.ct_problem.specs.declared.fault.BadKind.TheVariants.{NumberTooLarge}
-use Rattle.ct_problem.specs.Input.{Input, Outcome, Parser, ◌>>=◌, ◌>>◌, and_then, pure, syntax, skip, next, line_end, line_end_by, fresh_line, fresh_by, has_line_end, dots, dots_by, spelling}
 use Rattle.ct_problem.specs.Input as input
 use Rattle.ct_problem.specs.Number as digits
-use Rattle.ct_problem.specs.Number.{fault_if, coming_number}
-use Rattle.ct_problem.specs.Lexemes.{Number, Dots, LineEnd, Texts, one, number, decimal}
 use Rattle.ct_problem.proofs.LexemeSteps.{shown, after_first, shown-symbol, value_of-decimal}
 use Rattle.ct_problem.proofs.Spelling.{Spelled, Spells, Spelled-as, moved, taken, taken_so}
 use Rattle.ct_problem.proofs.Following.{fresh_line-settles}

@@ -1,21 +1,13 @@
 -- What is read as a term is spelled so. Main lemma `Spells-term`, rule by rule.
-use Rattle.std.proofs.Common.{◌≡◌, ℕ, zero, suc, Bool, true, false, cond, List, [], ◌∷◌, ◌++◌, length, Some, Ok, refl, ap, ◌∙◌}
-use Rattle.std.proofs.lemmas.List.{append_assoc}
+use Rattle.ct_problem.proofs.Base.{◌≡◌, ℕ, zero, suc, Bool, true, false, cond, List, [], ◌∷◌, ◌++◌, length, Some, Ok, refl, ap, ◌∙◌, append_assoc}
+use Rattle.ct_problem.proofs.Base.{largest_degree, Expr, Syntax, ExponentTooLarge, Input, Outcome, Parser, ◌>>=◌, pure, eat, Names, product_of}
+use Rattle.ct_problem.proofs.Base.{factor, factors_from, term, Lexeme, Sign, Texts, optional, ◌▸◌, each, IsAtom, IsFactor, IsTerm, IsMoreFactor}
+use Rattle.ct_problem.proofs.Frame.{joined_to_left, joined_to_right, joined_nothing, on_second, Spelled, Spells, Continues, Continues-pure}
+use Rattle.ct_problem.proofs.Frame.{Continues-last, Continues-bind, Spells-fault, Spells-bind, Spells-eat, Spells-number}
 use Rattle.ct_token.specs.declared.token.Symbol.TheVariants as symbol
-use Rattle.ct_checked.specs.Limits.{largest_degree}
-use Rattle.ct_expr.specs.declared.expr.Expr.{Expr}
 use Rattle.ct_expr.specs.declared.expr.Expr.TheVariants as e
-use Rattle.ct_problem.specs.declared.fault.BadKind.TheVariants.{Syntax, ExponentTooLarge}
-use Rattle.ct_problem.specs.Input.{Input, Outcome, Parser, ◌>>=◌, pure, eat}
 use Rattle.ct_problem.specs.Input as input
 use Rattle.ct_problem.specs.Number as digits
-use Rattle.ct_problem.specs.Names.{Names}
-use Rattle.ct_problem.specs.Expressions.{product_of, factor, factors_from, term}
-use Rattle.ct_problem.specs.Lexemes.{Lexeme, Sign, Texts, optional, ◌▸◌, each}
-use Rattle.ct_problem.specs.Grammar.{IsAtom, IsFactor, IsTerm, IsMoreFactor}
-use Rattle.ct_problem.proofs.JoinedTexts.{joined_to_left, joined_to_right, joined_nothing, on_second}
-use Rattle.ct_problem.proofs.Spelling.{Spelled, Spells, Continues, Continues-pure, Continues-last, Continues-bind, Spells-fault, Spells-bind, Spells-eat}
-use Rattle.ct_problem.proofs.SpelledSteps.{Spells-number}
 use Rattle.ct_problem.proofs.SpelledAtoms.{Spells-atom}
 
 module _ (names : Names) (operators : Bool) where

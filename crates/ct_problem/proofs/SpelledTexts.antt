@@ -1,26 +1,14 @@
 -- A text that is read stands for the problem that it is read as. Main lemma `problem_spelled`; `read_problem` cites `gives_spelled`.
-use Rattle.std.proofs.Common.{◌≡◌, ℕ, ◌≤◌, Bool, true, false, cond, List, [], ◌∷◌, ◌++◌, length, nat_lt, IsTrue, Option, Result, Ok, Err, IfOk, refl, sym, ap, ◌∙◌, subst, codes, ltb-false}
-use Rattle.std.proofs.lemmas.List.{append_assoc}
-use Rattle.ct_io.specs.declared.command.Command.{Command}
-use Rattle.ct_token.specs.Lexical.{scan_of}
-use Rattle.ct_token.specs.declared.token.Token.{Token}
-use Rattle.ct_ore.specs.Naming.{Naming}
-use Rattle.ct_problem.specs.declared.fault.ReadFault.{ReadFault}
-use Rattle.ct_problem.specs.declared.problem.Problem.{Problem}
-use Rattle.ct_problem.specs.Input.{Input, Outcome, fresh_line, ◌>>=◌, and_then, pure}
-use Rattle.ct_problem.specs.GrammarProblem.{Says, StandsFor, IsEnd, MayFollow}
+use Rattle.ct_problem.proofs.Base.{◌≡◌, ℕ, ◌≤◌, Bool, true, false, cond, List, [], ◌∷◌, ◌++◌, length, nat_lt, IsTrue, Option, Result, Ok, Err, IfOk}
+use Rattle.ct_problem.proofs.Base.{refl, sym, ap, ◌∙◌, subst, codes, ltb-false, append_assoc, Command, scan_of, Token, Naming, ReadFault, Problem}
+use Rattle.ct_problem.proofs.Base.{Input, Outcome, fresh_line, ◌>>=◌, and_then, pure, Says, StandsFor, IsEnd, MayFollow, Definition, Word, nothing}
+use Rattle.ct_problem.proofs.Base.{one, ◌▸◌, lexemes, most_bytes, Reading, has_needs, head, body, last_line, problem, problem_of, input_of_scan}
+use Rattle.ct_problem.proofs.Base.{too_long, reading_of, Gives}
+use Rattle.ct_problem.proofs.Frame.{Goes_on, Settled, lexemes-append, used-taken, fresh_line-settles, joined, Spelled, Goes, Goes-whole, first_read}
 use Rattle.ct_problem.specs.GrammarProblem as grammar
-use Rattle.ct_problem.specs.LetLines.{Definition}
-use Rattle.ct_problem.specs.Lexemes.{Word, nothing, one, ◌▸◌, lexemes}
-use Rattle.ct_problem.specs.Limits.{most_bytes}
-use Rattle.ct_problem.specs.ReadProblem.{Reading, has_needs, head, body, last_line, problem, problem_of, value_of, input_of_scan, too_long, reading_of, Gives}
-use Rattle.ct_problem.proofs.Following.{Goes_on, Settled, lexemes-append, used-taken, fresh_line-settles}
-use Rattle.ct_problem.proofs.JoinedTexts.{joined}
-use Rattle.ct_problem.proofs.Spelling.{Spelled}
+use Rattle.ct_problem.specs.ReadProblem.{value_of}
 use Rattle.ct_problem.proofs.SpelledEnds.{Last, last_is}
 use Rattle.ct_problem.proofs.SpelledProblems.{Before, Goes-head, Goes-body}
-use Rattle.ct_problem.proofs.SpelledRuns.{Goes, Goes-whole}
-use Rattle.ct_problem.proofs.SpelledSteps.{first_read}
 
 -- the lines before the last one
 Goes-lines : Goes nothing (head >>= (λ h. body h.0 h.1)) Before

@@ -2,14 +2,10 @@
 --     Spells p L        the lexemes that p takes are of the set L x for the value x that it gives
 --     Continues D p L   the same of the lexemes before it, which are of D, and those that p takes
 --     Spells-bind and others  the steps that every rule is made of
-use Rattle.std.proofs.Common.{◌≡◌, ℕ, Bool, true, false, List, [], ◌∷◌, ◌++◌, Ok, Err, refl, sym, ap, ◌∙◌, subst, rules, tests, arith}
-use Rattle.std.proofs.lemmas.List.{append_assoc, append-nil}
-use Rattle.std.proofs.lemmas.Bool.{false≢true}
-use Rattle.std.proofs.lemmas.Slice.Eq.{bytes_eq-Decides}
-use Rattle.ct_problem.specs.declared.fault.BadKind.{BadKind}
-use Rattle.ct_problem.specs.declared.fault.BadKind.TheVariants.{Syntax}
-use Rattle.ct_problem.specs.Input.{Input, Outcome, Parser, ◌>>=◌, and_then, pure, fault, next, past, sees, eat, expect, sees_word, eat_word, expect_word, required}
-use Rattle.ct_problem.specs.Lexemes.{Lexeme, Word, Number, Sign, Dots, LineEnd, Texts, one, optional, ◌▸◌}
+use Rattle.ct_problem.proofs.Base.{◌≡◌, ℕ, Bool, true, false, List, [], ◌∷◌, ◌++◌, Ok, Err, refl, sym, ap, ◌∙◌, subst, rules, tests, arith}
+use Rattle.ct_problem.proofs.Base.{append_assoc, append-nil, false≢true, bytes_eq-Decides, BadKind, Syntax, Input, Outcome, Parser, ◌>>=◌, and_then}
+use Rattle.ct_problem.proofs.Base.{pure, fault, next, past, sees, eat, expect, sees_word, eat_word, expect_word, required, Lexeme, Word, Number, Sign}
+use Rattle.ct_problem.proofs.Base.{Dots, LineEnd, Texts, one, optional, ◌▸◌}
 use Rattle.ct_problem.proofs.LexemeSteps.{shown, shows_sign, shows_word, after_first, sees-shown, sees_word-shown, shown-next}
 use Rattle.ct_problem.proofs.JoinedTexts.{joined}
 use Rattle.ct_problem.proofs.Following.{Follows, Settled, Follows-same, Follows-then, Follows-next, ends_line, passed}

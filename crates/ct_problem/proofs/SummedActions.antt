@@ -1,15 +1,8 @@
 -- Summed names have operators (`summed_act`), and there are as many of them as of their texts (`summed_length`).
-use Rattle.std.proofs.Common.{◌≡◌, ◌≢◌, ℕ, suc, ◌+◌, ◌<◌, ◌≤◌, List, [], ◌∷◌, length, drop, get_or, Option, Some, slice_get, refl, sym, ap, ◌∙◌, arith}
-use Rattle.std.proofs.lemmas.List.{drop-drop, get_or-drop, length-drop}
-use Rattle.std.proofs.lemmas.Option.{slice_get-get_or}
-use Rattle.ct_algebra.specs.Names.{name_with}
-use Rattle.ct_algebra.specs.Actions.{Still}
-use Rattle.ct_ore.proofs.PairMeasureLaws.{known_action}
-use Rattle.ct_algebra.specs.FreeOf.{EachName}
-use Rattle.ct_ore.specs.Naming.{Naming, IsNaming, EachIsNaming, actions_of, summed_of, summed_from, with_summed}
-use Rattle.ct_ore.specs.declared.algebra.Role.{Role}
+use Rattle.ct_problem.proofs.Base.{◌≡◌, ◌≢◌, ℕ, suc, ◌+◌, ◌<◌, ◌≤◌, List, [], ◌∷◌, length, drop, get_or, Option, Some, slice_get, refl, sym, ap, ◌∙◌}
+use Rattle.ct_problem.proofs.Base.{arith, drop-drop, get_or-drop, length-drop, slice_get-get_or, name_with, Still, known_action, EachName, Naming}
+use Rattle.ct_problem.proofs.Base.{IsNaming, EachIsNaming, actions_of, summed_of, summed_from, with_summed, Role, summed_texts, with_text}
 use Rattle.ct_ore.specs.declared.algebra.Role.TheVariants as role
-use Rattle.ct_problem.specs.Names.{summed_texts, with_text}
 
 lengths_from : (k : ℕ) (ns : List Naming) → length (summed_from k ns) ≡ length (summed_texts ns)
 lengths_from k [] = refl

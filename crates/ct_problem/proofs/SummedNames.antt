@@ -1,12 +1,9 @@
 -- The numbers of the summed names, name by name: `summed_name` and `other_name` are the turns of the loop, and `all_names` its
 -- end.
-use Rattle.std.proofs.Common.{◌≡◌, ℕ, zero, suc, ◌+◌, ◌<◌, ◌≤◌, List, [], ◌∷◌, ◌++◌, length, map, drop, Some, slice_get, arith, Bool, true, false, cond, sym, ap, ◌∙◌, append_assoc, refl}
-use Rattle.std.specs.List.{All}
-use Rattle.std.proofs.lemmas.Option.{slice_get_within, get_or_from_slice_get}
-use Rattle.std.proofs.lemmas.List.{drop_more, drop_all, append-nil, map-append}
-use Rattle.ct_algebra.specs.Names.{Name, name_with}
-use Rattle.ct_ore.specs.Naming.{Naming, summed_from, with_summed, is_summed}
-use Rattle.ct_ore.specs.declared.algebra.Role.{Role}
+use Rattle.ct_problem.proofs.Base.{◌≡◌, ℕ, zero, suc, ◌+◌, ◌<◌, ◌≤◌, List, [], ◌∷◌, ◌++◌, length, map, drop, Some, slice_get, arith, Bool, true}
+use Rattle.ct_problem.proofs.Base.{false, cond, sym, ap, ◌∙◌, refl, All, slice_get_within, get_or_from_slice_get, drop_more, drop_all, append-nil}
+use Rattle.ct_problem.proofs.Base.{map-append, Name, name_with, Naming, summed_from, with_summed, is_summed, Role}
+use Rattle.std.proofs.Common.{append_assoc}
 use Rattle.ct_ore.specs.declared.algebra.Role.TheVariants as role
 
 with_name : (r : Role) (i : Name) (is : List Name) → with_summed r i is ≡ cond (is_summed r) (i ∷ is) is

@@ -1,29 +1,18 @@
 -- Lexemes that stand for an atom are read as that atom. Main lemma `Takes-atom`.
-use Rattle.std.proofs.Common.{◌≡◌, ◌≢◌, ℕ, ◌==◌, Bool, true, false, cond, List, ◌∷◌, ◌++◌, Option, Some, None, IsTrue, pos, refl, sym, ap, ◌∙◌, subst, arith, rules, tests, codes}
-use Rattle.std.specs.Str.{bytes_eq}
-use Rattle.ct_token.specs.declared.token.Symbol.{Symbol}
+use Rattle.ct_problem.proofs.Base.{◌≡◌, ◌≢◌, ℕ, ◌==◌, Bool, true, false, cond, List, ◌∷◌, ◌++◌, Option, Some, None, IsTrue, pos, refl, sym, ap, ◌∙◌}
+use Rattle.ct_problem.proofs.Base.{subst, arith, rules, tests, codes, bytes_eq, Symbol, Action, Shift, Derive, largest_norm, Expr, WrongKind}
+use Rattle.ct_problem.proofs.Base.{ZeroDenominator, Known, Variable, Input, Parser, ◌>>=◌, ◌>>◌, pure, fault, skip, next, eat, expect, sees_word}
+use Rattle.ct_problem.proofs.Base.{spelling, Names, known, fault_if, name_by, name, acting_by, acting_word, acting, symbol_by, letter, word_by, word}
+use Rattle.ct_problem.proofs.Base.{whole, divisor, constant, atom_by, atom, Lexeme, Word, Number, Sign, Texts, nothing, one, number, ◌▸◌, IsVariable}
+use Rattle.ct_problem.proofs.Base.{IsActing, IsAtom}
+use Rattle.ct_problem.proofs.Frame.{joined_to_right, to_nothing, shown, shows_word, sees_word-shown, shows_a_word, shows_a_number, shows_a_sign}
+use Rattle.ct_problem.proofs.Frame.{spelling-shown, unequal_words, Taken-next, Taken, Takes, anywhere, Takes-as, Takes-to_right, Takes-then}
+use Rattle.ct_problem.proofs.Frame.{Takes-next, Takes-last, Takes-skip, Takes-eat, Takes-no_sign, Takes-expect, Takes-fault_if, Takes-coming}
 use Rattle.ct_token.specs.declared.token.Symbol.TheVariants as symbol
-use Rattle.ct_algebra.specs.Actions.{Action, Shift, Derive}
-use Rattle.ct_checked.specs.Limits.{largest_norm}
-use Rattle.ct_expr.specs.declared.expr.Expr.{Expr}
 use Rattle.ct_expr.specs.declared.expr.Expr.TheVariants as expr
-use Rattle.ct_problem.specs.declared.fault.BadKind.TheVariants.{WrongKind, ZeroDenominator}
-use Rattle.ct_problem.specs.declared.reading.names.Known.{Known}
-use Rattle.ct_problem.specs.declared.reading.names.Known.TheVariants.{Variable}
-use Rattle.ct_problem.specs.Input.{Input, Parser, ◌>>=◌, ◌>>◌, pure, fault, skip, next, eat, expect, sees_word, spelling}
 use Rattle.ct_problem.specs.Input as input
-use Rattle.ct_problem.specs.Names.{Names, known}
-use Rattle.ct_problem.specs.Number.{fault_if}
-use Rattle.ct_problem.specs.Expressions.{name_by, name, acting_by, acting_word, acting, symbol_by, letter, word_by, word, whole, divisor, constant, atom_by, atom}
-use Rattle.ct_problem.specs.Lexemes.{Lexeme, Word, Number, Sign, Texts, nothing, one, number, ◌▸◌}
-use Rattle.ct_problem.specs.Grammar.{IsVariable, IsActing, IsAtom}
-use Rattle.ct_problem.proofs.JoinedTexts.{joined_to_right, to_nothing}
 use Rattle.ct_problem.proofs.KnownNames.{known-variable}
 use Rattle.ct_problem.proofs.LexemeStarts.{AfterAtom}
-use Rattle.ct_problem.proofs.LexemeSteps.{shown, shows_word, sees_word-shown}
-use Rattle.ct_problem.proofs.ShownSymbols.{shows_a_word, shows_a_number, shows_a_sign, spelling-shown, unequal_words}
-use Rattle.ct_problem.proofs.Taking.{Taken-next, Taken, Takes, anywhere, Takes-as, Takes-to_right, Takes-then, Takes-next, Takes-last, Takes-skip, Takes-eat, Takes-no_sign, Takes-expect, Takes-fault_if}
-use Rattle.ct_problem.proofs.TakenSteps.{Takes-coming}
 
 -- the name that the next word names
 known_next : (names : Names) (letters : List ℕ) (at : ℕ) (i : Input) (rest : List Lexeme) → known letters names ≡ Variable at → shown i ≡ Word letters ∷ rest → known (spelling i) names ≡ Variable at

@@ -1,15 +1,9 @@
 -- Lexemes that stand for the lines of a problem before the last one are read as what they say. Main lemma `Takes-all_lines`.
-use Rattle.std.proofs.Common.{ℕ, List, [], Option, refl, arith, codes}
-use Rattle.ct_ore.specs.Naming.{Naming}
+use Rattle.ct_problem.proofs.Base.{ℕ, List, [], Option, refl, arith, codes, Naming, AreFew, Parser, ◌>>=◌, Definition, Texts, nothing, ◌▸◌}
+use Rattle.ct_problem.proofs.Base.{value_lines, Names, Reading, head, body}
+use Rattle.ct_problem.proofs.Frame.{Takes-fresh_line, Takes, Takes-as, Takes-to_right, Takes-bind, Takes-last}
 use Rattle.ct_problem.specs.GrammarLets as lets
 use Rattle.ct_problem.specs.GrammarProblem as grammar
-use Rattle.ct_problem.specs.GrammarProblem.{AreFew}
-use Rattle.ct_problem.specs.Input.{Parser, ◌>>=◌}
-use Rattle.ct_problem.specs.LetLines.{Definition}
-use Rattle.ct_problem.specs.Lexemes.{Texts, nothing, ◌▸◌}
-use Rattle.ct_problem.specs.Lines.{value_lines}
-use Rattle.ct_problem.specs.Names.{Names}
-use Rattle.ct_problem.specs.ReadProblem.{Reading, head, body}
 use Rattle.ct_problem.proofs.LineStarts.{AfterLines, Leads, fresh_before, leads_join}
 use Rattle.ct_problem.proofs.LineStarts as starts
 use Rattle.ct_problem.proofs.TakenDens.{Takes-den_lines, leads_dens}
@@ -17,9 +11,7 @@ use Rattle.ct_problem.proofs.TakenProblemLines.{Takes-generators, leads_generato
 use Rattle.ct_problem.proofs.TakenLets.{Takes-let_lines, leads_lets}
 use Rattle.ct_problem.proofs.TakenLines.{Takes-header}
 use Rattle.ct_problem.proofs.TakenNames.{Takes-declarations}
-use Rattle.ct_problem.proofs.TakenSteps.{Takes-fresh_line}
 use Rattle.ct_problem.proofs.TakenValues.{Takes-values, leads_values}
-use Rattle.ct_problem.proofs.Taking.{Takes, Takes-as, Takes-to_right, Takes-bind, Takes-last}
 
 module _ (bad : Option ℕ) where
   -- ---- the first line, the names and the `let` lines

@@ -1,33 +1,22 @@
 -- Lexemes that stand for `den` lines are read as what they stand for. There are no more lines than summed names: each takes one for
 -- which nothing stood (`room-taken`). Main lemma `Takes-den_lines`.
-use Rattle.std.proofs.Common.{◌≡◌, ℕ, zero, suc, ◌+◌, ◌≤◌, max, ◌&&◌, Bool, true, false, cond, List, [], ◌∷◌, ◌++◌, length, Option, Some, None, IsTrue, slice_get, refl, sym, ap, ◌∙◌, subst, arith, codes}
-use Rattle.std.specs.Option.{is_none}
-use Rattle.std.proofs.lemmas.Bool.{false≢true}
-use Rattle.ct_token.specs.declared.token.Symbol.{Symbol}
-use Rattle.ct_ore.specs.Naming.{Naming, is_summed}
-use Rattle.ct_expr.specs.declared.expr.Expr.{Expr}
-use Rattle.ct_problem.specs.declared.fault.BadKind.TheVariants.{WrongKind}
-use Rattle.ct_problem.specs.declared.reading.names.Known.{Known}
-use Rattle.ct_problem.specs.DenLines.{Dens, no_dens, is_given, with_den, is_summed_name, summed_by, summed_word, summed_name, once, den_line, den_lines, den_lines_from}
-use Rattle.ct_problem.specs.Input.{Parser, ◌>>=◌, ◌>>◌, pure, fault, place, skip, expect, sees_word}
+use Rattle.ct_problem.proofs.Base.{◌≡◌, ℕ, zero, suc, ◌+◌, ◌≤◌, max, ◌&&◌, Bool, true, false, cond, List, [], ◌∷◌, ◌++◌, length, Option, Some, None}
+use Rattle.ct_problem.proofs.Base.{IsTrue, slice_get, refl, sym, ap, ◌∙◌, subst, arith, codes, is_none, false≢true, Symbol, Naming, is_summed, Expr}
+use Rattle.ct_problem.proofs.Base.{WrongKind, Known, Dens, no_dens, is_given, with_den, is_summed_name, summed_by, summed_word, summed_name, once}
+use Rattle.ct_problem.proofs.Base.{den_line, den_lines, den_lines_from, Parser, ◌>>=◌, ◌>>◌, pure, fault, place, skip, expect, sees_word, Lexeme}
+use Rattle.ct_problem.proofs.Base.{Word, Sign, one, ◌▸◌, each, Names, known, summed_texts, append_assoc, length-map}
+use Rattle.ct_problem.proofs.Frame.{Follows-same, shown, shows_word, sees_word-shown, shows_a_word, spelling-shown, same_word, joined_to_right, Taken}
+use Rattle.ct_problem.proofs.Frame.{Taken-next, Taken-bind, Takes, Takes-value, anywhere, Takes-then, Takes-next, Takes-last, Takes-skip}
+use Rattle.ct_problem.proofs.Frame.{Takes-expect, headed, IsFresh}
 use Rattle.ct_problem.specs.Lines as read
-use Rattle.ct_problem.specs.Lexemes.{Lexeme, Word, Sign, one, ◌▸◌, each}
 use Rattle.ct_problem.specs.GrammarProblem as grammar
-use Rattle.ct_problem.specs.Names.{Names, known, summed_texts}
 use Rattle.ct_problem.proofs.AlgebraNames.{with_text-length}
-use Rattle.ct_problem.proofs.Following.{Follows-same}
 use Rattle.ct_problem.proofs.GivenDens.{length-with_den}
 use Rattle.ct_problem.proofs.KnownNames.{known-variable}
-use Rattle.ct_problem.proofs.LexemeSteps.{shown, shows_word, sees_word-shown}
-use Rattle.ct_problem.proofs.ShownSymbols.{shows_a_word, spelling-shown, same_word}
-use Rattle.ct_problem.proofs.JoinedTexts.{joined_to_right}
 use Rattle.ct_problem.proofs.LineStarts.{AfterLines, Leads, other_word, fresh_before, leads_nothing, leads_key}
 use Rattle.ct_problem.proofs.LineStarts as starts
 use Rattle.ct_problem.proofs.TakenValues.{Takes-past}
-use Rattle.std.proofs.lemmas.List.{append_assoc, length-map}
-use Rattle.ct_problem.proofs.Taking.{Taken, Taken-next, Taken-bind, Takes, Takes-value, anywhere, Takes-then, Takes-next, Takes-last, Takes-skip, Takes-expect, headed}
 use Rattle.ct_problem.proofs.TakenLines.{Takes-value_line}
-use Rattle.ct_problem.proofs.TakenSteps.{IsFresh}
 
 -- the summed names for which nothing stands
 room : List Naming → Dens → ℕ

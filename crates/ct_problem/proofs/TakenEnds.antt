@@ -1,19 +1,11 @@
 -- Tokens that are the last line of a problem are read as that line. Main lemma `end_taken`.
-use Rattle.std.proofs.Common.{◌≡◌, ℕ, not, Bool, true, false, cond, List, [], ◌∷◌, ◌++◌, length, Option, Some, None, Ok, IsTrue, refl, ap, ◌∙◌, codes}
-use Rattle.ct_io.specs.declared.command.Command.{Command}
-use Rattle.ct_io.specs.declared.command.Command.TheVariants.{Telescope, Check, Reduce, Test, Close, Member, Gen, Demo}
-use Rattle.ct_token.specs.declared.token.Symbol.{Symbol}
+use Rattle.ct_problem.proofs.Base.{◌≡◌, ℕ, not, Bool, true, false, cond, List, [], ◌∷◌, ◌++◌, length, Option, Some, None, Ok, IsTrue, refl, ap, ◌∙◌}
+use Rattle.ct_problem.proofs.Base.{codes, Command, Telescope, Check, Reduce, Test, Close, Member, Gen, Demo, Symbol, Token, slice, Missing, Input}
+use Rattle.ct_problem.proofs.Base.{Parser, ◌>>=◌, ◌>>◌, and_then, pure, skip, syntax, fresh_line, has_line_end, sees_word, IsEnd, MayFollow, Lexeme}
+use Rattle.ct_problem.proofs.Base.{Word, LineEnd, lexeme_of, lexemes, fault_if, Reading, lacks, has_needs, ending, ending_by, nothing_left}
+use Rattle.ct_problem.proofs.Base.{behind_end, last_line}
+use Rattle.ct_problem.proofs.Frame.{shows_word, sees_word-shown, same_word}
 use Rattle.ct_token.specs.declared.token.Symbol.TheVariants as symbol
-use Rattle.ct_token.specs.declared.token.Token.{Token}
-use Rattle.ct_token.specs.Lexing.{slice}
-use Rattle.ct_problem.specs.declared.fault.BadKind.TheVariants.{Missing}
-use Rattle.ct_problem.specs.Input.{Input, Parser, ◌>>=◌, ◌>>◌, and_then, pure, skip, syntax, fresh_line, has_line_end, sees_word}
-use Rattle.ct_problem.specs.GrammarProblem.{IsEnd, MayFollow}
-use Rattle.ct_problem.specs.Lexemes.{Lexeme, Word, LineEnd, lexeme_of, lexemes}
-use Rattle.ct_problem.specs.Number.{fault_if}
-use Rattle.ct_problem.specs.ReadProblem.{Reading, lacks, has_needs, ending, ending_by, nothing_left, behind_end, last_line}
-use Rattle.ct_problem.proofs.LexemeSteps.{shows_word, sees_word-shown}
-use Rattle.ct_problem.proofs.ShownSymbols.{same_word}
 use Rattle.ct_problem.proofs.SpelledEnds.{Last}
 
 -- the cursor at these tokens

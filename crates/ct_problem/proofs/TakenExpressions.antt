@@ -1,18 +1,13 @@
 -- Lexemes that stand for an expression are read as that expression. Main lemma `Takes-expression`, rule by rule.
-use Rattle.std.proofs.Common.{◌≡◌, ℕ, zero, suc, ◌≤◌, ◌||◌, Bool, true, false, cond, List, [], ◌∷◌, ◌++◌, length, map, Option, Some, None, refl, sym, ap, ◌∙◌, subst, arith}
-use Rattle.std.proofs.lemmas.List.{append_assoc, append-nil}
-use Rattle.ct_expr.specs.declared.expr.Expr.{Expr}
+use Rattle.ct_problem.proofs.Base.{◌≡◌, ℕ, zero, suc, ◌≤◌, ◌||◌, Bool, true, false, cond, List, [], ◌∷◌, ◌++◌, length, map, Option, Some, None, refl}
+use Rattle.ct_problem.proofs.Base.{sym, ap, ◌∙◌, subst, arith, append_assoc, append-nil, Expr, Summand, Input, Parser, ◌>>=◌, ◌<$>◌, pure, eat, sees}
+use Rattle.ct_problem.proofs.Base.{Names, joint, joins, term, summands_from, summands, sum, nested, expression, Lexeme, Sign, Texts, nothing, one}
+use Rattle.ct_problem.proofs.Base.{optional, ◌▸◌, each, Term, sum_of, IsTerm, IsSum, IsNested, IsMoreTerm, IsExpression}
+use Rattle.ct_problem.proofs.Frame.{shown, shows_sign, sees-shown, joined_to_right, Follows-same, Taken, Takes, anywhere, Taken-bind, Takes-pure}
+use Rattle.ct_problem.proofs.Frame.{Takes-value, Takes-to_right, Takes-bind, Takes-then, Takes-next, Takes-last, Takes-skip, Takes-eat, Takes-no_sign}
+use Rattle.ct_problem.proofs.Frame.{Takes-expect}
 use Rattle.ct_expr.specs.declared.expr.Expr.TheVariants as expr
-use Rattle.ct_expr.specs.declared.expr.Summand.{Summand}
-use Rattle.ct_problem.specs.Input.{Input, Parser, ◌>>=◌, ◌<$>◌, pure, eat, sees}
-use Rattle.ct_problem.specs.Names.{Names}
-use Rattle.ct_problem.specs.Expressions.{summand, joint, joins, term, summands_from, summands, sum, nested, expression}
-use Rattle.ct_problem.specs.Lexemes.{Lexeme, Sign, Texts, nothing, one, optional, ◌▸◌, each}
-use Rattle.ct_problem.specs.Grammar.{Term, sum_of, IsTerm, IsSum, IsNested, IsMoreTerm, IsExpression}
-use Rattle.ct_problem.proofs.LexemeSteps.{shown, shows_sign, sees-shown}
-use Rattle.ct_problem.proofs.JoinedTexts.{joined_to_right}
-use Rattle.ct_problem.proofs.Following.{Follows-same}
-use Rattle.ct_problem.proofs.Taking.{Taken, Takes, anywhere, Taken-bind, Takes-pure, Takes-value, Takes-to_right, Takes-bind, Takes-then, Takes-next, Takes-last, Takes-skip, Takes-eat, Takes-no_sign, Takes-expect}
+use Rattle.ct_problem.specs.Expressions.{summand}
 use Rattle.ct_problem.proofs.LexemeStarts.{Opens-joined, Opens-before, each-length, begun-length, begun-shows, AfterTerm, AfterSum, after_term}
 use Rattle.ct_problem.proofs.TakenTerms.{term_opens, Takes-term, room}
 

@@ -1,35 +1,21 @@
 -- Lexemes that stand for `let` lines are read as their definitions. Main lemma `Takes-let_lines`.
-use Rattle.std.proofs.Common.{◌≡◌, ℕ, zero, suc, ◌≤◌, Bool, true, false, cond, List, [], ◌∷◌, ◌++◌, length, Option, Some, None, refl, sym, ap, ◌∙◌, subst, arith, codes}
-use Rattle.std.specs.List.{position}
-use Rattle.std.specs.Str.{bytes_eq}
-use Rattle.std.proofs.lemmas.List.{append_assoc}
-use Rattle.ct_token.specs.declared.token.Symbol.{Symbol}
-use Rattle.ct_ore.specs.Naming.{Naming}
-use Rattle.ct_expr.specs.declared.expr.Expr.{Expr}
-use Rattle.ct_problem.specs.declared.problem.LetForm.{LetForm}
+use Rattle.ct_problem.proofs.Base.{◌≡◌, ℕ, zero, suc, ◌≤◌, Bool, true, false, cond, List, [], ◌∷◌, ◌++◌, length, Option, Some, None, refl, sym, ap}
+use Rattle.ct_problem.proofs.Base.{◌∙◌, subst, arith, codes, position, bytes_eq, append_assoc, Symbol, Naming, Expr, LetForm, LetWord, Plus, Product}
+use Rattle.ct_problem.proofs.Base.{Apply, Known, Let, Input, Parser, ◌>>=◌, pure, eat, sees_word, expression, Definition, with_definitions, list_by}
+use Rattle.ct_problem.proofs.Base.{list_word, list_name, listed_from, two_lists, applied, form_by, let_word, form_of_word, let_form, definition}
+use Rattle.ct_problem.proofs.Base.{let_lines, let_lines_from, Lexeme, Word, Sign, LineEnd, Texts, nothing, one, ◌▸◌, each, IsExpression, IsList}
+use Rattle.ct_problem.proofs.Base.{Names, known, known_by}
+use Rattle.ct_problem.proofs.Frame.{joined_to_right, on_first, shown, shows_word, shows_sign, sees_word-shown, shows_a_word, spelling-shown}
+use Rattle.ct_problem.proofs.Frame.{Taken-next, Takes, anywhere, Takes-as, Takes-value, Takes-to_right, Takes-bind, Takes-then, Takes-next}
+use Rattle.ct_problem.proofs.Frame.{Takes-last, Takes-eat, Takes-no_sign, Takes-skip, Takes-expect, headed, IsFresh, Takes-line_end}
 use Rattle.ct_problem.specs.declared.problem.LetForm.TheVariants as form
-use Rattle.ct_problem.specs.declared.reading.let_lines.LetWord.{LetWord}
-use Rattle.ct_problem.specs.declared.reading.let_lines.LetWord.TheVariants.{Gens, Plus, Product, Apply}
-use Rattle.ct_problem.specs.declared.reading.names.Known.{Known}
-use Rattle.ct_problem.specs.declared.reading.names.Known.TheVariants.{Let}
-use Rattle.ct_problem.specs.Input.{Input, Parser, ◌>>=◌, pure, eat, sees_word}
-use Rattle.ct_problem.specs.Expressions.{expression}
-use Rattle.ct_problem.specs.LetLines.{Definition, with_definitions, list_by, list_word, list_name, listed_from, two_lists, applied, form_by, let_word, form_of_word, let_form, definition, let_lines, let_lines_from}
-use Rattle.ct_problem.specs.Lexemes.{Lexeme, Word, Sign, LineEnd, Texts, nothing, one, ◌▸◌, each}
-use Rattle.ct_problem.specs.Grammar.{IsExpression}
+use Rattle.ct_problem.specs.declared.reading.let_lines.LetWord.TheVariants.{Gens}
 use Rattle.ct_problem.specs.GrammarLets as lets
-use Rattle.ct_problem.specs.GrammarLets.{IsList}
-use Rattle.ct_problem.specs.Names.{Names, known, known_by}
-use Rattle.ct_problem.proofs.JoinedTexts.{joined_to_right, on_first}
-use Rattle.ct_problem.proofs.LexemeSteps.{shown, shows_word, shows_sign, sees_word-shown}
 use Rattle.ct_problem.proofs.LexemeStarts.{AfterSum}
 use Rattle.ct_problem.proofs.LineStarts.{AfterLines, Leads, other_word, fresh_before, leads_nothing, leads_key}
 use Rattle.ct_problem.proofs.LineStarts as starts
-use Rattle.ct_problem.proofs.ShownSymbols.{shows_a_word, spelling-shown}
-use Rattle.ct_problem.proofs.Taking.{Taken-next, Takes, anywhere, Takes-as, Takes-value, Takes-to_right, Takes-bind, Takes-then, Takes-next, Takes-last, Takes-eat, Takes-no_sign, Takes-skip, Takes-expect, headed}
 use Rattle.ct_problem.proofs.TakenExpressions.{Takes-expression}
 use Rattle.ct_problem.proofs.TakenNames.{Takes-new_name}
-use Rattle.ct_problem.proofs.TakenSteps.{IsFresh, Takes-line_end}
 use Rattle.ct_problem.proofs.TakenValues.{Takes-key_lines}
 
 list_known : (letters : List ℕ) (names : Names) (at : ℕ) → IsList names letters at → known letters names ≡ Let at

@@ -1,15 +1,11 @@
 -- Lexemes that stand for a line are read as what they stand for.
-use Rattle.std.proofs.Common.{ℕ, Bool, Option, List, ◌++◌, refl, sym, subst, arith, codes}
-use Rattle.ct_expr.specs.declared.expr.Expr.{Expr}
+use Rattle.ct_problem.proofs.Base.{ℕ, Bool, Option, List, ◌++◌, refl, sym, subst, arith, codes, Expr, Names, Lexeme, LineEnd, one, header, value}
+use Rattle.ct_problem.proofs.Base.{keyed, part}
+use Rattle.ct_problem.proofs.Frame.{Takes, Takes-to_right, Takes-bind, Takes-next, Takes-last, Takes-expect, Takes-expect_word, IsFresh}
+use Rattle.ct_problem.proofs.Frame.{Takes-line_end, Takes-exactly}
 use Rattle.ct_problem.specs.Lines as read
-use Rattle.ct_problem.specs.Names.{Names}
 use Rattle.ct_problem.specs.ReportLines as rules
-use Rattle.ct_problem.specs.Lexemes.{Lexeme, LineEnd, one}
-use Rattle.ct_problem.specs.GrammarProblem.{header, value, keyed}
-use Rattle.ct_problem.specs.GrammarReport.{part}
 use Rattle.ct_problem.proofs.LexemeStarts.{AfterSum}
-use Rattle.ct_problem.proofs.Taking.{Takes, Takes-to_right, Takes-bind, Takes-next, Takes-last, Takes-expect, Takes-expect_word}
-use Rattle.ct_problem.proofs.TakenSteps.{IsFresh, Takes-line_end, Takes-exactly}
 use Rattle.ct_problem.proofs.TakenExpressions.{Takes-expression}
 
 module _ (bad : Option ℕ) where

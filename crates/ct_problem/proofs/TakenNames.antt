@@ -1,34 +1,20 @@
 -- Lexemes that stand for the lines of names are read as those names. Main lemma `Takes-declarations`.
-use Rattle.std.proofs.Common.{◌≡◌, ℕ, zero, suc, ◌<◌, ◌≤◌, not, nat_lt, Bool, false, cond, List, [], ◌∷◌, ◌++◌, length, Option, Some, None, Ok, refl, sym, ap, ◌∙◌, subst, arith, codes}
-use Rattle.std.specs.Str.{bytes_eq}
-use Rattle.std.proofs.lemmas.List.{append_assoc, append-nil}
-use Rattle.ct_token.specs.declared.token.Symbol.{Symbol}
-use Rattle.ct_algebra.specs.Actions.{Action, Shift, Derive, Still}
-use Rattle.ct_ore.specs.Naming.{Naming}
-use Rattle.ct_ore.specs.declared.algebra.Role.{Role}
+use Rattle.ct_problem.proofs.Base.{◌≡◌, ℕ, zero, suc, ◌<◌, ◌≤◌, not, nat_lt, Bool, false, cond, List, [], ◌∷◌, ◌++◌, length, Option, Some, None, Ok}
+use Rattle.ct_problem.proofs.Base.{refl, sym, ap, ◌∙◌, subst, arith, codes, bytes_eq, append_assoc, append-nil, Symbol, Action, Shift, Derive, Still}
+use Rattle.ct_problem.proofs.Base.{Naming, Role, NameTooLong, DuplicateName, NameLine, Free, Sum, Int, Param, Input, Outcome, Parser, ◌>>=◌, ◌>>◌}
+use Rattle.ct_problem.proofs.Base.{and_then, pure, peek, skip, eat_word, expect_word, line_end, sees_word, name_line, spelled_word, new_name}
+use Rattle.ct_problem.proofs.Base.{free_action, action_of_line, role_of_line, is_full, declared, declaration, declarations_by, full_by}
+use Rattle.ct_problem.proofs.Base.{declarations_from, some_names, declarations, Names, is_new, fault_if, Lexeme, Word, LineEnd, Texts, one, ◌▸◌}
+use Rattle.ct_problem.proofs.Base.{IsDeclarable, AreFew, le-ltb}
+use Rattle.ct_problem.proofs.Frame.{Follows-same, joined_to_right, shown, shows_word, sees_word-shown, shows_a_word, spelling-shown, Taken}
+use Rattle.ct_problem.proofs.Frame.{Taken-bind, Takes, anywhere, Takes-to_right, Takes-then, Takes-next, Takes-last, Takes-fault_if, Takes-skip}
+use Rattle.ct_problem.proofs.Frame.{Takes-eat_word, Takes-no_word, Takes-expect_word, headed, IsFresh, Takes-line_end}
 use Rattle.ct_ore.specs.declared.algebra.Role.TheVariants as role
-use Rattle.ct_problem.specs.declared.fault.BadKind.TheVariants.{NameTooLong, DuplicateName}
-use Rattle.ct_problem.specs.declared.reading.declarations.NameLine.{NameLine}
-use Rattle.ct_problem.specs.declared.reading.declarations.NameLine.TheVariants.{Free, Sum, Int, Param}
-use Rattle.ct_problem.specs.Input.{Input, Outcome, Parser, ◌>>=◌, ◌>>◌, and_then, pure, peek, skip, eat_word, expect_word, line_end, sees_word}
-use Rattle.ct_problem.specs.Declarations.{name_line, spelled_word, new_name, free_action, action_of_line, role_of_line, is_full, declared, declaration, declarations_by, full_by, declarations_from, some_names, declarations}
-use Rattle.ct_problem.specs.Names.{Names, is_new}
-use Rattle.ct_problem.specs.Number.{fault_if}
-use Rattle.ct_problem.specs.Lexemes.{Lexeme, Word, LineEnd, Texts, one, ◌▸◌}
 use Rattle.ct_problem.specs.GrammarLets as lets
-use Rattle.ct_problem.specs.GrammarLets.{IsDeclarable}
 use Rattle.ct_problem.specs.GrammarProblem as grammar
-use Rattle.ct_problem.specs.GrammarProblem.{AreFew}
-use Rattle.std.proofs.lemmas.Bool.{le-ltb}
 use Rattle.ct_problem.proofs.AlgebraNames.{summed_count}
 use Rattle.ct_problem.proofs.NameRooms.{HasRoom, Rooms, few_rooms, room_for}
-use Rattle.ct_problem.proofs.Following.{Follows-same}
-use Rattle.ct_problem.proofs.JoinedTexts.{joined_to_right}
-use Rattle.ct_problem.proofs.LexemeSteps.{shown, shows_word, sees_word-shown}
 use Rattle.ct_problem.proofs.LineStarts.{rank_of, AfterLines, other_word, fresh_before}
-use Rattle.ct_problem.proofs.ShownSymbols.{shows_a_word, spelling-shown}
-use Rattle.ct_problem.proofs.Taking.{Taken, Taken-bind, Takes, anywhere, Takes-to_right, Takes-then, Takes-next, Takes-last, Takes-fault_if, Takes-skip, Takes-eat_word, Takes-no_word, Takes-expect_word, headed}
-use Rattle.ct_problem.proofs.TakenSteps.{IsFresh, Takes-line_end}
 
 -- ---- which line begins
 

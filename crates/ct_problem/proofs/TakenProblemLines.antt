@@ -1,24 +1,15 @@
 -- Lexemes that stand for ranges, for `gen` lines, or for a `use` line, are read as what they stand for.
-use Rattle.std.proofs.Common.{◌≡◌, ℕ, ◌<◌, ◌≤◌, Bool, false, cond, nat_lt, List, [], ◌∷◌, ◌++◌, Option, Some, None, refl, arith, codes}
-use Rattle.std.proofs.lemmas.Bool.{le-ltb}
-use Rattle.ct_checked.specs.Limits.{largest_norm}
-use Rattle.ct_problem.specs.declared.fault.BadKind.TheVariants.{OutOfRange, EmptyRange}
-use Rattle.ct_problem.specs.declared.problem.Range.{Range}
-use Rattle.ct_problem.specs.declared.problem.Gens.{Gens}
-use Rattle.ct_problem.specs.declared.problem.Gens.TheVariants.{Listed, Named}
-use Rattle.ct_problem.specs.Input.{Parser, ◌>>=◌, ◌>>◌, pure, skip, eat_word, line_end}
-use Rattle.ct_problem.specs.Lexemes.{Lexeme, Word, Number, Dots, LineEnd, nothing, one, number, ◌▸◌}
+use Rattle.ct_problem.proofs.Base.{◌≡◌, ℕ, ◌<◌, ◌≤◌, Bool, false, cond, nat_lt, List, [], ◌∷◌, ◌++◌, Option, Some, None, refl, arith, codes, le-ltb}
+use Rattle.ct_problem.proofs.Base.{largest_norm, OutOfRange, EmptyRange, Range, Gens, Listed, Named, Parser, ◌>>=◌, ◌>>◌, pure, skip, eat_word}
+use Rattle.ct_problem.proofs.Base.{line_end, Lexeme, Word, Number, Dots, LineEnd, nothing, one, number, ◌▸◌, fault_if, high_number, range, range_line}
+use Rattle.ct_problem.proofs.Base.{used, generators, Names}
+use Rattle.ct_problem.proofs.Frame.{joined_to_right, to_nothing, shows_word, Takes, anywhere, Takes-as, Takes-bind, Takes-then, Takes-next}
+use Rattle.ct_problem.proofs.Frame.{Takes-last, Takes-fault_if, Takes-skip, Takes-eat_word, Takes-no_word, IsFresh, Takes-line_end, Takes-dots}
+use Rattle.ct_problem.proofs.Frame.{Takes-number, Takes-coming}
 use Rattle.ct_problem.specs.Lines.{no_more}
-use Rattle.ct_problem.specs.Number.{fault_if}
-use Rattle.ct_problem.specs.ProblemLines.{high_number, range, range_line, used, generators}
-use Rattle.ct_problem.specs.Names.{Names}
 use Rattle.ct_problem.specs.GrammarProblem as grammar
 use Rattle.ct_problem.specs.GrammarLets as lets
-use Rattle.ct_problem.proofs.JoinedTexts.{joined_to_right, to_nothing}
-use Rattle.ct_problem.proofs.LexemeSteps.{shows_word}
 use Rattle.ct_problem.proofs.LineStarts.{Key, word_of, rank_of, rank, AfterLines, Leads, other_word, leads_nothing, leads_key, fresh_before}
-use Rattle.ct_problem.proofs.Taking.{Takes, anywhere, Takes-as, Takes-bind, Takes-then, Takes-next, Takes-last, Takes-fault_if, Takes-skip, Takes-eat_word, Takes-no_word}
-use Rattle.ct_problem.proofs.TakenSteps.{IsFresh, Takes-line_end, Takes-dots, Takes-number, Takes-coming}
 use Rattle.ct_problem.proofs.TakenValues.{Takes-past, Takes-values, leads_values}
 use Rattle.ct_problem.proofs.TakenLets.{Takes-list_name}
 use Rattle.ct_problem.proofs.LineStarts as starts

@@ -1,29 +1,17 @@
 -- A text that stands for a problem is read as that problem. Main lemma `problem_taken`; `read_problem` cites `gives_none`.
-use Rattle.std.proofs.Common.{◌≡◌, ◌≢◌, ℕ, nat_lt, Bool, false, cond, List, [], ◌∷◌, ◌++◌, length, drop, Option, Some, None, Result, Ok, Err, IfErr, refl, sym, ap, ap₂, ◌∙◌, subst, arith, codes, length-append, le-ltb}
-use Rattle.std.proofs.Math.Seq.{drop-append_seam}
-use Rattle.std.proofs.lemmas.List.{append_assoc}
-use Rattle.ct_io.specs.declared.command.Command.{Command}
-use Rattle.ct_token.specs.Lexical.{scan_of}
-use Rattle.ct_token.specs.declared.token.Token.{Token}
-use Rattle.ct_ore.specs.Naming.{Naming}
-use Rattle.ct_problem.specs.declared.fault.ReadFault.{ReadFault}
-use Rattle.ct_problem.specs.declared.fault.ReadFault.TheVariants.{Bad, NoMemory}
-use Rattle.ct_problem.specs.declared.problem.Problem.{Problem}
-use Rattle.ct_problem.specs.GrammarProblem.{StandsFor, StandsForNone, IsEnd}
-use Rattle.ct_problem.specs.Input.{Input, Outcome, Parser, ◌>>=◌, and_then, pure}
-use Rattle.ct_problem.specs.LetLines.{Definition}
-use Rattle.ct_problem.specs.Lexemes.{Lexeme, Word, LineEnd, lexemes}
-use Rattle.ct_problem.specs.Limits.{most_bytes}
-use Rattle.ct_problem.specs.ReadProblem.{Reading, head, body, last_line, problem, problem_of, value_of, input_of_scan, too_long, Gives}
-use Rattle.ct_problem.proofs.Following.{lexemes-append}
+use Rattle.ct_problem.proofs.Base.{◌≡◌, ◌≢◌, ℕ, nat_lt, Bool, false, cond, List, [], ◌∷◌, ◌++◌, length, drop, Option, Some, None, Result, Ok, Err}
+use Rattle.ct_problem.proofs.Base.{IfErr, refl, sym, ap, ap₂, ◌∙◌, subst, arith, codes, length-append, drop-append_seam, append_assoc, Command}
+use Rattle.ct_problem.proofs.Base.{scan_of, Token, Naming, ReadFault, Bad, NoMemory, Problem, StandsFor, StandsForNone, IsEnd, Input, Outcome, Parser}
+use Rattle.ct_problem.proofs.Base.{◌>>=◌, and_then, pure, Definition, Lexeme, Word, LineEnd, lexemes, most_bytes, Reading, head, body, last_line}
+use Rattle.ct_problem.proofs.Base.{problem, problem_of, input_of_scan, too_long, Gives}
+use Rattle.ct_problem.proofs.Frame.{lexemes-append, shown, IsFresh, Taken}
+use Rattle.std.proofs.Common.{le-ltb}
+use Rattle.ct_problem.specs.ReadProblem.{value_of}
 use Rattle.ct_problem.proofs.LexemeStarts.{length-shown}
-use Rattle.ct_problem.proofs.LexemeSteps.{shown}
 use Rattle.ct_problem.proofs.LineStarts.{AfterLines, End, fresh_before}
 use Rattle.ct_problem.proofs.SpelledEnds.{Last}
 use Rattle.ct_problem.proofs.TakenBodies.{Takes-all_lines}
 use Rattle.ct_problem.proofs.TakenEnds.{end_taken}
-use Rattle.ct_problem.proofs.TakenSteps.{IsFresh}
-use Rattle.ct_problem.proofs.Taking.{Taken}
 
 -- ---- the last word
 

@@ -1,15 +1,8 @@
 -- A text that stands for a report is read as that report. Main lemma `report_taken`; `read_found_report` cites `gives_no_report`.
-use Rattle.std.proofs.Common.{◌≡◌, ℕ, ◌<◌, Bool, cond, List, [], ◌++◌, length, Some, None, Ok, refl, sym, ap, ◌∙◌, subst}
-use Rattle.std.proofs.lemmas.List.{append-nil}
-use Rattle.ct_checked.specs.Limits.{largest_norm}
-use Rattle.ct_token.specs.Lexical.{scan_of}
-use Rattle.ct_ore.specs.Naming.{Naming}
-use Rattle.ct_problem.specs.declared.report.Report.{Report}
-use Rattle.ct_problem.specs.GrammarReport.{ReportStandsFor, ReportStandsForNone}
-use Rattle.ct_problem.specs.ReadProblem.{input_of_scan}
-use Rattle.ct_problem.specs.ReadReport.{found, report_of}
-use Rattle.ct_problem.specs.ReportLines.{report}
-use Rattle.ct_problem.proofs.LexemeSteps.{shown}
+use Rattle.ct_problem.proofs.Base.{◌≡◌, ℕ, ◌<◌, Bool, cond, List, [], ◌++◌, length, Some, None, Ok, refl, sym, ap, ◌∙◌, subst, append-nil}
+use Rattle.ct_problem.proofs.Base.{largest_norm, scan_of, Naming, Report, ReportStandsFor, ReportStandsForNone, input_of_scan, found, report_of}
+use Rattle.ct_problem.proofs.Base.{report}
+use Rattle.ct_problem.proofs.Frame.{shown}
 use Rattle.ct_problem.proofs.TakenReports.{Takes-report}
 
 pub report_taken : (variables : List Naming) (count : ℕ) (bytes : List ℕ) (from : ℕ) (r : Report) → count < largest_norm → ReportStandsFor variables count bytes from r → report_of variables count bytes from ≡ Some r

@@ -1,25 +1,13 @@
 -- Lexemes that stand for a report are read as that report. Main lemma `Takes-report`, line by line.
-use Rattle.std.proofs.Common.{◌≡◌, ℕ, ◌+◌, ◌<◌, ◌≤◌, true, false, None, List, [], ◌∷◌, ◌++◌, length, refl, sym, ap, ◌∙◌, arith, codes}
-use Rattle.std.proofs.lemmas.List.{append_assoc, append-nil}
-use Rattle.ct_token.specs.declared.token.Token.{Token}
-use Rattle.ct_checked.specs.Limits.{largest_norm}
-use Rattle.ct_ore.specs.Naming.{Naming}
-use Rattle.ct_problem.specs.declared.fault.BadKind.TheVariants.{OutOfRange}
-use Rattle.ct_expr.specs.declared.expr.Expr.{Expr}
-use Rattle.ct_problem.specs.declared.report.Quotient.{Quotient}
-use Rattle.ct_problem.specs.declared.report.Report.{Report}
-use Rattle.ct_problem.specs.Input.{Input, Parser, ◌>>◌, line_end}
+use Rattle.ct_problem.proofs.Base.{◌≡◌, ℕ, ◌+◌, ◌<◌, ◌≤◌, true, false, None, List, [], ◌∷◌, ◌++◌, length, refl, sym, ap, ◌∙◌, arith, codes}
+use Rattle.ct_problem.proofs.Base.{append_assoc, append-nil, Token, largest_norm, Naming, OutOfRange, Expr, Quotient, Report, Input, Parser, ◌>>◌}
+use Rattle.ct_problem.proofs.Base.{line_end, LineEnd, nothing, one, ◌▸◌, lexemes, declared, part, quotient, cofactor, cofactors, each_with, numbered}
+use Rattle.ct_problem.proofs.Base.{found_line, Names, summed_texts}
+use Rattle.ct_problem.proofs.Frame.{shown, to_nothing, Takes, anywhere, Takes-pure, Takes-as, Takes-value, Takes-to_right, Takes-then, Takes-next}
+use Rattle.ct_problem.proofs.Frame.{Takes-last, Takes-expect, Takes-expect_word, Takes-line_end, Takes-number, Takes-exactly, Follows-same}
 use Rattle.ct_problem.specs.ReportLines as rules
-use Rattle.ct_problem.specs.Lexemes.{LineEnd, nothing, one, ◌▸◌, lexemes}
-use Rattle.ct_problem.specs.Declarations.{declared}
-use Rattle.ct_problem.specs.GrammarReport.{last_line, part, quotient, cofactor, cofactors, each_with, numbered, found_line}
+use Rattle.ct_problem.specs.GrammarReport.{last_line}
 use Rattle.ct_problem.specs.GrammarReport as grammar
-use Rattle.ct_problem.specs.Names.{Names, summed_texts}
-use Rattle.ct_problem.proofs.LexemeSteps.{shown}
-use Rattle.ct_problem.proofs.JoinedTexts.{to_nothing}
-use Rattle.ct_problem.proofs.Taking.{Takes, anywhere, Takes-pure, Takes-as, Takes-value, Takes-to_right, Takes-then, Takes-next, Takes-last, Takes-expect, Takes-expect_word}
-use Rattle.ct_problem.proofs.TakenSteps.{Takes-line_end, Takes-number, Takes-exactly}
-use Rattle.ct_problem.proofs.Following.{Follows-same}
 use Rattle.ct_problem.proofs.TakenLines.{Takes-header, Takes-value_line, Takes-keyed, Takes-part}
 
 module _ (names : Names) where

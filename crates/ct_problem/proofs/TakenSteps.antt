@@ -1,19 +1,13 @@
 -- The ends of lines, `..` and numbers are read as what they stand for.
 --     IsFresh bad rest      where the step to a line meets no byte that begins no token
 --     Takes-coming          what is done with the number that comes next
-use Rattle.std.proofs.Common.{◌≡◌, ℕ, ◌≤◌, ◌==◌, Bool, true, false, cond, ◌||◌, List, [], ◌∷◌, ◌++◌, Option, Some, None, Ok, IsTrue, refl, ap, ◌∙◌, arith, rules, tests, nat_lt}
-use Rattle.ct_token.specs.declared.token.Symbol.{Symbol}
+use Rattle.ct_problem.proofs.Base.{◌≡◌, ℕ, ◌≤◌, ◌==◌, Bool, true, false, cond, ◌||◌, List, [], ◌∷◌, ◌++◌, Option, Some, None, Ok, IsTrue, refl, ap}
+use Rattle.ct_problem.proofs.Base.{◌∙◌, arith, rules, tests, nat_lt, Symbol, Token, is_line_end, slice, largest_norm, BadKind, NumberTooLarge, Input}
+use Rattle.ct_problem.proofs.Base.{Outcome, Parser, ◌>>=◌, ◌>>◌, and_then, pure, syntax, skip, next, has_line_end, fresh_line, fresh_by, line_end}
+use Rattle.ct_problem.proofs.Base.{line_end_by, dots, dots_by, spelling, fault_if, coming_number, Lexeme, Word, Number, Sign, Dots, LineEnd, Texts}
+use Rattle.ct_problem.proofs.Base.{nothing, one, number, lexeme_of, lexemes}
 use Rattle.ct_token.specs.declared.token.Symbol.TheVariants as symbol
-use Rattle.ct_token.specs.declared.token.Token.{Token}
-use Rattle.ct_token.specs.Lexical.{is_line_end}
-use Rattle.ct_token.specs.Lexing.{slice}
-use Rattle.ct_checked.specs.Limits.{largest_norm}
-use Rattle.ct_problem.specs.declared.fault.BadKind.{BadKind}
-use Rattle.ct_problem.specs.declared.fault.BadKind.TheVariants.{NumberTooLarge}
-use Rattle.ct_problem.specs.Input.{Input, Outcome, Parser, ◌>>=◌, ◌>>◌, and_then, pure, syntax, skip, next, has_line_end, fresh_line, fresh_by, line_end, line_end_by, dots, dots_by, spelling}
 use Rattle.ct_problem.specs.Number as digits
-use Rattle.ct_problem.specs.Number.{fault_if, coming_number}
-use Rattle.ct_problem.specs.Lexemes.{Lexeme, Word, Number, Sign, Dots, LineEnd, Texts, nothing, one, number, lexeme_of, lexemes}
 use Rattle.ct_problem.proofs.LexemeSteps.{shown, value_of-small}
 use Rattle.ct_problem.proofs.Following.{Follows-same, Follows-then, Follows-next, fresh_line-settles}
 use Rattle.ct_problem.proofs.ShownSymbols.{shows_a_number, shows_dots, shows_line_end, decimal-shown, next-shown, same_number}

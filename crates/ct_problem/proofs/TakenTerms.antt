@@ -1,20 +1,12 @@
 -- Lexemes that stand for a term are read as that term. Main lemma `Takes-term`, rule by rule.
-use Rattle.std.proofs.Common.{◌≡◌, ℕ, zero, suc, ◌≤◌, Bool, false, cond, List, [], ◌∷◌, ◌++◌, length, Option, refl, sym, ap, subst, arith, codes, length-append}
-use Rattle.std.proofs.lemmas.List.{append_assoc}
-use Rattle.ct_checked.specs.Limits.{largest_degree}
-use Rattle.ct_expr.specs.declared.expr.Expr.{Expr}
+use Rattle.ct_problem.proofs.Base.{◌≡◌, ℕ, zero, suc, ◌≤◌, Bool, false, cond, List, [], ◌∷◌, ◌++◌, length, Option, refl, sym, ap, subst, arith, codes}
+use Rattle.ct_problem.proofs.Base.{length-append, append_assoc, largest_degree, Expr, ExponentTooLarge, Input, Parser, ◌>>=◌, pure, eat, Names}
+use Rattle.ct_problem.proofs.Base.{product_of, factor, factors_from, term, Lexeme, Word, Number, Sign, Texts, nothing, one, ◌▸◌, each, IsAtom}
+use Rattle.ct_problem.proofs.Base.{IsFactor, IsTerm, IsMoreFactor}
+use Rattle.ct_problem.proofs.Frame.{shown, shows_sign, joined_to_right, on_second, to_nothing, Taken, Takes, anywhere, Takes-as, Takes-value}
+use Rattle.ct_problem.proofs.Frame.{Takes-to_right, Takes-bind, Takes-then, Takes-last, Takes-eat, Takes-no_sign, Takes-number}
 use Rattle.ct_expr.specs.declared.expr.Expr.TheVariants as expr
-use Rattle.ct_problem.specs.declared.fault.BadKind.TheVariants.{ExponentTooLarge}
-use Rattle.ct_problem.specs.Input.{Input, Parser, ◌>>=◌, pure, eat}
 use Rattle.ct_problem.specs.Number as digits
-use Rattle.ct_problem.specs.Names.{Names}
-use Rattle.ct_problem.specs.Expressions.{product_of, factor, factors_from, term}
-use Rattle.ct_problem.specs.Lexemes.{Lexeme, Word, Number, Sign, Texts, nothing, one, ◌▸◌, each}
-use Rattle.ct_problem.specs.Grammar.{IsAtom, IsFactor, IsTerm, IsMoreFactor}
-use Rattle.ct_problem.proofs.LexemeSteps.{shown, shows_sign}
-use Rattle.ct_problem.proofs.JoinedTexts.{joined_to_right, on_second, to_nothing}
-use Rattle.ct_problem.proofs.Taking.{Taken, Takes, anywhere, Takes-as, Takes-value, Takes-to_right, Takes-bind, Takes-then, Takes-last, Takes-eat, Takes-no_sign}
-use Rattle.ct_problem.proofs.TakenSteps.{Takes-number}
 use Rattle.ct_problem.proofs.LexemeStarts.{Opens, Opens-joined, Opens-one, each-length, begun-length, begun-shows, length-shown, AfterAtom, AfterFactor, AfterTerm, after_factor}
 use Rattle.ct_problem.proofs.TakenAtoms.{Takes-atom}
 

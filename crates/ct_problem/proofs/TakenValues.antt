@@ -1,21 +1,12 @@
 -- Lexemes that stand for lines with values are read as what they stand for.
-use Rattle.std.proofs.Common.{◌≡◌, ℕ, zero, suc, ◌<◌, ◌≤◌, Bool, true, false, cond, Option, List, [], ◌∷◌, ◌++◌, length, refl, sym, ap, ◌∙◌, subst, arith}
-use Rattle.std.proofs.lemmas.List.{append_assoc, append-nil}
-use Rattle.ct_expr.specs.declared.expr.Expr.{Expr}
-use Rattle.ct_problem.specs.declared.fault.BadKind.TheVariants.{TooMany}
-use Rattle.ct_problem.specs.Input.{Parser, ◌>>=◌, ◌>>◌, pure, sees_word, eat_word}
+use Rattle.ct_problem.proofs.Base.{◌≡◌, ℕ, zero, suc, ◌<◌, ◌≤◌, Bool, true, false, cond, Option, List, [], ◌∷◌, ◌++◌, length, refl, sym, ap, ◌∙◌}
+use Rattle.ct_problem.proofs.Base.{subst, arith, append_assoc, append-nil, Expr, TooMany, Parser, ◌>>=◌, ◌>>◌, pure, sees_word, eat_word, Names}
+use Rattle.ct_problem.proofs.Base.{fault_if, Lexeme, Word, Texts, nothing, one, ◌▸◌, each, value, keyed}
+use Rattle.ct_problem.proofs.Frame.{Follows-same, joined_to_right, shown, shows_word, sees_word-shown, Takes, Takes-as, Takes-value, Takes-bind}
+use Rattle.ct_problem.proofs.Frame.{Takes-then, Takes-last, Takes-eat_word, Takes-no_word, IsFresh}
 use Rattle.ct_problem.specs.Lines as read
-use Rattle.ct_problem.specs.Names.{Names}
-use Rattle.ct_problem.specs.Number.{fault_if}
-use Rattle.ct_problem.specs.Lexemes.{Lexeme, Word, Texts, nothing, one, ◌▸◌, each}
-use Rattle.ct_problem.specs.GrammarProblem.{value, keyed}
-use Rattle.ct_problem.proofs.Following.{Follows-same}
-use Rattle.ct_problem.proofs.JoinedTexts.{joined_to_right}
-use Rattle.ct_problem.proofs.LexemeSteps.{shown, shows_word, sees_word-shown}
 use Rattle.ct_problem.proofs.LineStarts.{Key, word_of, rank, rank_of, AfterLines, Leads, other_word, fresh_before, leads_nothing, leads_key}
-use Rattle.ct_problem.proofs.Taking.{Takes, Takes-as, Takes-value, Takes-bind, Takes-then, Takes-last, Takes-eat_word, Takes-no_word}
 use Rattle.ct_problem.proofs.TakenLines.{Takes-value_line}
-use Rattle.ct_problem.proofs.TakenSteps.{IsFresh}
 
 module _ (bad : Option ℕ) where
   -- a test that takes nothing

@@ -2,12 +2,9 @@
 --     Takes bad p x L F       from lexemes of L, before a rest that F allows, p gives x and leaves the rest; the first byte that
 --                             begins no token stands at the place bad, if there is one
 --     Takes-bind and others   the steps that every rule is made of
-use Rattle.std.proofs.Common.{◌≡◌, ℕ, Bool, true, false, List, ◌∷◌, ◌++◌, Option, Ok, refl, ap, ◌∙◌, subst}
-use Rattle.std.proofs.lemmas.List.{append_assoc}
-use Rattle.ct_problem.specs.declared.fault.BadKind.{BadKind}
-use Rattle.ct_problem.specs.Input.{Input, Parser, ◌>>=◌, ◌>>◌, and_then, pure, skip, next, past, sees, eat, expect, sees_word, eat_word, expect_word, required}
-use Rattle.ct_problem.specs.Number.{fault_if}
-use Rattle.ct_problem.specs.Lexemes.{Lexeme, Word, Sign, Texts, nothing, one, ◌▸◌}
+use Rattle.ct_problem.proofs.Base.{◌≡◌, ℕ, Bool, true, false, List, ◌∷◌, ◌++◌, Option, Ok, refl, ap, ◌∙◌, subst, append_assoc, BadKind, Input, Parser}
+use Rattle.ct_problem.proofs.Base.{◌>>=◌, ◌>>◌, and_then, pure, skip, next, past, sees, eat, expect, sees_word, eat_word, expect_word, required}
+use Rattle.ct_problem.proofs.Base.{fault_if, Lexeme, Word, Sign, Texts, nothing, one, ◌▸◌}
 use Rattle.ct_problem.proofs.LexemeSteps.{shown, shows_sign, shows_word, sees-shown, sees_word-shown}
 use Rattle.ct_problem.proofs.JoinedTexts.{joined_to_right}
 use Rattle.ct_problem.proofs.Following.{Follows, Follows-same, Follows-then, Follows-past, ends_line}

@@ -1,21 +1,11 @@
 -- Lines are well formed: the expressions of `gen`, `target` and `den` lines are over the declared names (`operators_of`,
 -- `dens_are`), and the lists that `let` lines name are of earlier lines (`lets_are`).
-use Rattle.std.proofs.Common.{ℕ, ◌≤◌, true, false, List, length, refl, ◌≡◌, suc, ◌<◌, [], ◌∷◌, ◌++◌, map, subst, arith, length-append, zero, Some, None, IsTrue, slice_get}
-use Rattle.std.proofs.lemmas.List.{length-map}
-use Rattle.std.proofs.lemmas.List.Quantifiers.{position-Some}
-use Rattle.std.proofs.lemmas.Bool.{false≢true}
-use Rattle.ct_ore.specs.Naming.{Naming}
-use Rattle.ct_expr.specs.declared.expr.Expr.{Expr}
-use Rattle.ct_problem.specs.declared.problem.LetForm.{LetForm}
+use Rattle.ct_problem.proofs.Base.{ℕ, ◌≤◌, true, false, List, length, refl, ◌≡◌, suc, ◌<◌, [], ◌∷◌, ◌++◌, map, subst, arith, length-append, zero}
+use Rattle.ct_problem.proofs.Base.{Some, None, IsTrue, slice_get, length-map, position-Some, false≢true, Naming, Expr, LetForm, IsExpression, values}
+use Rattle.ct_problem.proofs.Base.{Lexeme, each, Names, IsOperator, IsPolynomial, AreGenerators, Each, IsForm, AreForms, AreDensOf, AreDens, list}
+use Rattle.ct_problem.proofs.Base.{listed, let_lines_behind, Definition, with_definitions, Dens, no_dens, with_den, is_summed_name}
 use Rattle.ct_problem.specs.declared.problem.LetForm.TheVariants.{Gens, Plus, Product, Apply}
-use Rattle.ct_problem.specs.Grammar.{IsExpression}
-use Rattle.ct_problem.specs.GrammarProblem.{values}
-use Rattle.ct_problem.specs.Lexemes.{Lexeme, each}
-use Rattle.ct_problem.specs.Names.{Names}
-use Rattle.ct_problem.specs.WellFormed.{IsOperator, IsPolynomial, AreGenerators, Each, IsForm, AreForms, AreDensOf, AreDens}
-use Rattle.ct_problem.specs.GrammarLets.{list, listed, let_form, let_lines_behind}
-use Rattle.ct_problem.specs.LetLines.{Definition, with_definitions}
-use Rattle.ct_problem.specs.DenLines.{Dens, no_dens, with_den, is_summed_name}
+use Rattle.ct_problem.specs.GrammarLets.{let_form}
 use Rattle.ct_problem.specs.GrammarProblem as grammar
 use Rattle.ct_problem.proofs.EvaluableExpressions.{each_gives, expression_is}
 

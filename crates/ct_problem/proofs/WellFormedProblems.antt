@@ -1,25 +1,9 @@
 -- A problem for which a text stands is well formed. Main lemmas `reading_is`, and `draft_formed`, at the end, which `problem` cites.
-use Rattle.std.proofs.Common.{◌≡◌, ℕ, ◌≤◌, List, [], length, map, Option, Some, None, Ok, ap, ◌∙◌, subst, codes}
-use Rattle.std.proofs.lemmas.List.{length-map}
-use Rattle.ct_io.specs.declared.command.Command.{Command}
-use Rattle.ct_token.specs.Lexing.{AreTokens}
-use Rattle.ct_token.specs.declared.token.Token.{Token}
-use Rattle.ct_token.proofs.TokenPlaces.{scans_are_tokens}
-use Rattle.ct_ore.specs.Naming.{Naming, IsAlgebra}
-use Rattle.ct_problem.specs.declared.problem.Gens.{Gens}
-use Rattle.ct_problem.specs.declared.problem.Gens.TheVariants.{Listed, Named}
-use Rattle.ct_problem.specs.declared.problem.Range.{Range}
-use Rattle.ct_problem.specs.declared.reading.body.Draft.{Draft}
-use Rattle.ct_problem.specs.Cursor.{IsCursor}
-use Rattle.ct_problem.specs.Draft.{IsFormed, reading_of_draft}
+use Rattle.ct_problem.proofs.Base.{◌≡◌, ℕ, ◌≤◌, List, [], length, map, Option, Some, None, Ok, ap, ◌∙◌, subst, codes, length-map, Command, AreTokens}
+use Rattle.ct_problem.proofs.Base.{Token, scans_are_tokens, Naming, IsAlgebra, Gens, Listed, Named, Range, Draft, IsCursor, IsFormed}
+use Rattle.ct_problem.proofs.Base.{reading_of_draft, Says, Input, Outcome, ◌>>=◌, and_then, pure, Definition, Lexeme, lexemes, Names, Reading, head}
+use Rattle.ct_problem.proofs.Base.{body, last_line, problem, problem_of, Each, AreGenerators, AreForms, IsGens, AreDens, IsRange}
 use Rattle.ct_problem.specs.GrammarProblem as grammar
-use Rattle.ct_problem.specs.GrammarProblem.{Says}
-use Rattle.ct_problem.specs.Input.{Input, Outcome, ◌>>=◌, and_then, pure}
-use Rattle.ct_problem.specs.LetLines.{Definition}
-use Rattle.ct_problem.specs.Lexemes.{Lexeme, lexemes}
-use Rattle.ct_problem.specs.Names.{Names}
-use Rattle.ct_problem.specs.ReadProblem.{Reading, head, body, last_line, problem, problem_of}
-use Rattle.ct_problem.specs.WellFormed.{Each, AreGenerators, AreForms, IsGens, AreDens, IsRange}
 use Rattle.ct_problem.proofs.AlgebraNames.{names_are}
 use Rattle.ct_problem.proofs.Definitions.{length-definitions_of, forms_of}
 use Rattle.ct_problem.proofs.NewNames.{IsSpelled, words_are, words_before, words_behind}

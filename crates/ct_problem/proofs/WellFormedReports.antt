@@ -1,14 +1,7 @@
 -- A report for which a text stands is well formed. Main lemma `report_formed`, which `read_found_report` cites.
-use Rattle.std.proofs.Common.{◌≡◌, ℕ, suc, ◌+◌, ◌≤◌, false, List, [], ◌∷◌, length, refl, ap, ◌∙◌, sym, codes}
-use Rattle.ct_ore.specs.Naming.{Naming}
-use Rattle.ct_expr.specs.declared.expr.Expr.{Expr}
-use Rattle.ct_problem.specs.declared.report.Quotient.{Quotient}
-use Rattle.ct_problem.specs.declared.report.Report.{Report}
-use Rattle.ct_problem.specs.Declarations.{declared}
-use Rattle.ct_problem.specs.GrammarReport.{each_with, quotient, part, cofactors, ReportStandsFor}
-use Rattle.ct_problem.specs.Lexemes.{Lexeme, Texts}
-use Rattle.ct_problem.specs.Names.{Names, summed_texts}
-use Rattle.ct_problem.specs.WellFormed.{Each, IsOperator, IsPolynomial, IsQuotient, IsReportOn}
+use Rattle.ct_problem.proofs.Base.{◌≡◌, ℕ, suc, ◌+◌, ◌≤◌, false, List, [], ◌∷◌, length, refl, ap, ◌∙◌, sym, codes, Naming, Expr, Quotient, Report}
+use Rattle.ct_problem.proofs.Base.{declared, each_with, quotient, part, cofactors, ReportStandsFor, Lexeme, Texts, Names, summed_texts, Each}
+use Rattle.ct_problem.proofs.Base.{IsOperator, IsPolynomial, IsQuotient, IsReportOn}
 use Rattle.ct_problem.proofs.SummedActions.{summed_length}
 use Rattle.ct_problem.proofs.WellFormedLines.{operator_of, polynomial_of}
 

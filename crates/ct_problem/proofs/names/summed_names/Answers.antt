@@ -1,6 +1,4 @@
-use Rattle.std.proofs.Common.{◌≡◌, ◌<◌, ◌≤◌, ◌++◌, [], ◌∷◌, length, arith, refl, sym, ◌∙◌}
-use Rattle.std.proofs.lemmas.List.Elements.{All-append}
-use Rattle.ct_ore.specs.Naming.{naming_of, summed_of}
+use Rattle.ct_problem.proofs.Base.{◌≡◌, ◌<◌, ◌≤◌, ◌++◌, [], ◌∷◌, length, arith, refl, sym, ◌∙◌, All-append, naming_of, summed_of}
 use Rattle.ct_problem.proofs.SummedNames.{summed_name, other_name, all_names, one_known}
 use Rattle.ct_problem.proofs.names.summed_names.Goals as goal
 use Rattle.ct_problem.proofs.names.summed_names.Goals.{then-is_summed+in_ok-push, else-is_summed}

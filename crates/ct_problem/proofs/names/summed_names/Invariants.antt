@@ -1,7 +1,4 @@
-use Rattle.std.proofs.Common.{◌≡◌, ◌<◌, ◌++◌, length, map, drop}
-use Rattle.std.specs.List.{All}
-use Rattle.ct_algebra.specs.Names.{name_with}
-use Rattle.ct_ore.specs.Naming.{summed_from, summed_of}
+use Rattle.ct_problem.proofs.Base.{◌≡◌, ◌<◌, ◌++◌, length, map, drop, All, name_with, summed_from, summed_of}
 use Rattle.ct_problem.proofs.names.summed_names.Given as goal
 
 abbrev pub invariant-loop-i : goal.invariant-loop-i

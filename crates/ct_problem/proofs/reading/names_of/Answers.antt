@@ -1,6 +1,4 @@
-use Rattle.std.proofs.Common.{arith}
-use Rattle.std.proofs.lemmas.Grind.{common_steps}
-use Rattle.std.proofs.lemmas.List.{length-map, map-append, take_all, take_more}
+use Rattle.ct_problem.proofs.Base.{arith, common_steps, length-map, map-append, take_all, take_more}
 use Rattle.ct_problem.proofs.reading.names_of.Goals as goal
 
 pub loop-info-preserved : goal.loop-info-preserved

@@ -1,5 +1,4 @@
-use Rattle.std.proofs.Common.{◌≡◌, take}
-use Rattle.ct_ore.specs.Naming.{namings_of}
+use Rattle.ct_problem.proofs.Base.{◌≡◌, take, namings_of}
 use Rattle.ct_problem.proofs.reading.names_of.Given as goal
 
 abbrev pub invariant-loop-info : goal.invariant-loop-info

@@ -1,4 +1,4 @@
-use Rattle.std.proofs.Common.{◌≡◌, length}
+use Rattle.ct_problem.proofs.Base.{◌≡◌, length}
 use Rattle.ct_problem.proofs.WellFormedProblems.{draft_formed}
 use Rattle.ct_problem.proofs.reading.problem.Goals as goal
 

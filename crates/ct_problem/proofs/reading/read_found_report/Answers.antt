@@ -1,10 +1,6 @@
-use Rattle.std.proofs.Common.{◌≡◌, ◌+◌, ◌<◌, ◌≤◌, length, None, Some, ap, arith, rules}
-use Rattle.std.proofs.lemmas.Grind.{common_steps}
-use Rattle.ct_token.specs.Lexical.{Scanned, scan_of}
-use Rattle.ct_token.proofs.TokenPlaces.{scans_are_tokens}
-use Rattle.ct_problem.specs.ReadReport.{report_of}
+use Rattle.ct_problem.proofs.Base.{◌≡◌, ◌+◌, ◌<◌, ◌≤◌, length, None, Some, ap, arith, rules, common_steps, Scanned, scan_of, scans_are_tokens}
+use Rattle.ct_problem.proofs.Base.{report_of, largest_norm}
 use Rattle.ct_problem.proofs.Cursors.{IsCursor-later}
-use Rattle.ct_checked.specs.Limits.{largest_norm}
 use Rattle.ct_problem.proofs.SpelledReportTexts.{report_spelled}
 use Rattle.ct_problem.proofs.TakenReportTexts.{gives_no_report}
 use Rattle.ct_problem.proofs.WellFormedReports.{report_formed}

@@ -1,9 +1,5 @@
-use Rattle.std.proofs.Common.{◌≡◌, ap, arith, rules}
-use Rattle.std.proofs.lemmas.Grind.{common_steps}
-use Rattle.std.proofs.lemmas.Result.{IfOk-weaker}
-use Rattle.ct_token.specs.Lexical.{Scanned, scan_of}
-use Rattle.ct_token.proofs.TokenPlaces.{scans_are_tokens}
-use Rattle.ct_problem.specs.ReadProblem.{Gives, problem_of, reading_of}
+use Rattle.ct_problem.proofs.Base.{◌≡◌, ap, arith, rules, common_steps, IfOk-weaker, Scanned, scan_of, scans_are_tokens, Gives, problem_of}
+use Rattle.ct_problem.proofs.Base.{reading_of}
 use Rattle.ct_problem.proofs.ProblemEnds.{end_within}
 use Rattle.ct_problem.proofs.SpelledTexts.{gives_spelled}
 use Rattle.ct_problem.proofs.TakenProblems.{gives_none}

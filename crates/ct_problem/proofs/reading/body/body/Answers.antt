@@ -1,7 +1,4 @@
-use Rattle.std.proofs.Common.{rules, arith}
-use Rattle.std.proofs.lemmas.Grind.{common_steps}
-use Rattle.ct_problem.specs.Draft.{reading_of_draft}
-use Rattle.ct_problem.specs.ReadProblem.{body}
+use Rattle.ct_problem.proofs.Base.{rules, arith, common_steps, reading_of_draft, body}
 use Rattle.ct_problem.proofs.Definitions.{definitions-named}
 use Rattle.ct_problem.proofs.reading.body.body.Goals as goal
 

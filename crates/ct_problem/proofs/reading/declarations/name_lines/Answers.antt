@@ -1,7 +1,4 @@
-use Rattle.std.proofs.Common.{rules, arith}
-use Rattle.std.proofs.lemmas.Grind.{common_steps}
-use Rattle.ct_problem.specs.Declarations.{declarations_from}
-use Rattle.ct_expr.proofs.Turns.{one_more, no_more}
+use Rattle.ct_problem.proofs.Base.{rules, arith, common_steps, declarations_from, one_more, no_more}
 use Rattle.ct_problem.proofs.reading.declarations.name_lines.Goals as goal
 
 pub returns-in_default-clause-reads : goal.returns-in_default-clause-reads

@@ -1,5 +1,4 @@
-use Rattle.std.proofs.Common.{◌≡◌, ◌-◌, ◌≤◌, [], length}
-use Rattle.ct_problem.specs.Declarations.{declarations_from}
+use Rattle.ct_problem.proofs.Base.{◌≡◌, ◌-◌, ◌≤◌, [], length, declarations_from}
 use Rattle.ct_problem.proofs.reading.declarations.name_lines.Given as goal
 
 abbrev pub invariant-loop-turn : goal.invariant-loop-turn

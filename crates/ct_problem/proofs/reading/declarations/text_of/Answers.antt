@@ -1,4 +1,4 @@
-use Rattle.std.proofs.lemmas.Str.{IsUtf8-from_ascii}
+use Rattle.ct_problem.proofs.Base.{IsUtf8-from_ascii}
 use Rattle.ct_problem.proofs.reading.declarations.text_of.Goals as goal
 
 pub unwrap-requires : goal.unwrap-requires

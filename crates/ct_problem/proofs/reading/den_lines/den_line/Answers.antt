@@ -1,6 +1,4 @@
-use Rattle.std.proofs.Common.{rules, arith}
-use Rattle.std.proofs.lemmas.Grind.{common_steps}
-use Rattle.ct_problem.specs.DenLines.{den_line}
+use Rattle.ct_problem.proofs.Base.{rules, arith, common_steps, den_line}
 use Rattle.ct_problem.proofs.GivenDens.{with_den-slice_set}
 use Rattle.ct_problem.proofs.reading.den_lines.den_line.Goals as goal
 

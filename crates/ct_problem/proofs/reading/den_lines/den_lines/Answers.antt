@@ -1,7 +1,4 @@
-use Rattle.std.proofs.Common.{rules, arith}
-use Rattle.std.proofs.lemmas.Grind.{common_steps}
-use Rattle.ct_problem.specs.DenLines.{den_lines, den_lines_from}
-use Rattle.ct_expr.proofs.Turns.{one_more, no_more}
+use Rattle.ct_problem.proofs.Base.{rules, arith, common_steps, den_lines, den_lines_from, one_more, no_more}
 use Rattle.ct_problem.proofs.reading.den_lines.den_lines.Goals as goal
 
 pub loop-turn-init : goal.loop-turn-init

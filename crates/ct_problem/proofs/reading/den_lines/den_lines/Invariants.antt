@@ -1,5 +1,4 @@
-use Rattle.std.proofs.Common.{◌≡◌, ◌-◌, length}
-use Rattle.ct_problem.specs.DenLines.{den_lines, den_lines_from}
+use Rattle.ct_problem.proofs.Base.{◌≡◌, ◌-◌, length, den_lines, den_lines_from}
 use Rattle.ct_problem.proofs.reading.den_lines.den_lines.Given as goal
 
 abbrev pub invariant-loop-turn : goal.invariant-loop-turn

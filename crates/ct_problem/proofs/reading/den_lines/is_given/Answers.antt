@@ -1,5 +1,4 @@
-use Rattle.std.proofs.Common.{rules, arith}
-use Rattle.std.proofs.lemmas.Grind.{common_steps}
+use Rattle.ct_problem.proofs.Base.{rules, arith, common_steps}
 use Rattle.ct_problem.proofs.GivenDens.{is_given-slice_get}
 use Rattle.ct_problem.proofs.reading.den_lines.is_given.Goals as goal
 

@@ -1,6 +1,4 @@
-use Rattle.std.proofs.Common.{◌≡◌, ◌++◌, drop}
-use Rattle.ct_ore.specs.Naming.{namings_of}
-use Rattle.ct_problem.specs.DenLines.{no_dens}
+use Rattle.ct_problem.proofs.Base.{◌≡◌, ◌++◌, drop, namings_of, no_dens}
 use Rattle.ct_problem.proofs.reading.den_lines.no_dens.Given as goal
 
 abbrev pub invariant-loop-info : goal.invariant-loop-info

@@ -1,7 +1,4 @@
-use Rattle.std.proofs.Common.{◌≡◌, ap, arith, rules}
-use Rattle.std.proofs.lemmas.Grind.{common_steps}
-use Rattle.ct_problem.specs.Expressions.{nested}
-use Rattle.ct_expr.proofs.Turns.{deeper}
+use Rattle.ct_problem.proofs.Base.{◌≡◌, ap, arith, rules, common_steps, nested, deeper}
 use Rattle.ct_problem.proofs.reading.expressions.+nested.Goals as goal
 
 pub returns-then-depth-eq0 : goal.returns-then-depth-eq0

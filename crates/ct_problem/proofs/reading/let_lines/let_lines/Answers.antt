@@ -1,9 +1,5 @@
-use Rattle.std.proofs.Common.{rules, arith}
-use Rattle.std.proofs.lemmas.Grind.{common_steps}
-use Rattle.ct_problem.specs.LetLines.{let_lines, let_lines_from}
-use Rattle.ct_problem.specs.ReadProblem.{definitions_of}
+use Rattle.ct_problem.proofs.Base.{rules, arith, common_steps, let_lines, let_lines_from, definitions_of, one_more, no_more}
 use Rattle.ct_problem.proofs.Definitions.{definitions_of-more, definitions-named}
-use Rattle.ct_expr.proofs.Turns.{one_more, no_more}
 use Rattle.ct_problem.proofs.reading.let_lines.let_lines.Goals as goal
 
 pub loop-turn-init : goal.loop-turn-init

@@ -1,6 +1,4 @@
-use Rattle.std.proofs.Common.{◌≡◌, ◌-◌, ◌≤◌, length}
-use Rattle.ct_problem.specs.LetLines.{let_lines, let_lines_from}
-use Rattle.ct_problem.specs.ReadProblem.{definitions_of}
+use Rattle.ct_problem.proofs.Base.{◌≡◌, ◌-◌, ◌≤◌, length, let_lines, let_lines_from, definitions_of}
 use Rattle.ct_problem.proofs.reading.let_lines.let_lines.Given as goal
 
 abbrev pub invariant-loop-turn : goal.invariant-loop-turn

@@ -1,7 +1,4 @@
-use Rattle.std.proofs.Common.{rules, arith}
-use Rattle.std.proofs.lemmas.Grind.{common_steps}
-use Rattle.ct_problem.specs.LetLines.{listed_from}
-use Rattle.ct_expr.proofs.Turns.{one_more, no_more}
+use Rattle.ct_problem.proofs.Base.{rules, arith, common_steps, listed_from, one_more, no_more}
 use Rattle.ct_problem.proofs.reading.let_lines.listed.Goals as goal
 
 pub returns-in_err-expression : goal.returns-in_err-expression

@@ -1,5 +1,4 @@
-use Rattle.std.proofs.Common.{◌≡◌, ◌-◌, []}
-use Rattle.ct_problem.specs.LetLines.{listed_from}
+use Rattle.ct_problem.proofs.Base.{◌≡◌, ◌-◌, [], listed_from}
 use Rattle.ct_problem.proofs.reading.let_lines.listed.Given as goal
 
 abbrev pub invariant-loop-turn : goal.invariant-loop-turn

@@ -1,5 +1,4 @@
-use Rattle.std.proofs.Common.{◌≡◌, ◌-◌}
-use Rattle.ct_problem.specs.Lines.{value_lines, value_lines_from}
+use Rattle.ct_problem.proofs.Base.{◌≡◌, ◌-◌, value_lines, value_lines_from}
 use Rattle.ct_problem.proofs.reading.lines.value_lines.Given as goal
 
 abbrev pub invariant-loop-turn : goal.invariant-loop-turn

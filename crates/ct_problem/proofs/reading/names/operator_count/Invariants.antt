@@ -1,5 +1,5 @@
-use Rattle.std.proofs.Common.{◌≡◌, ◌≤◌, ◌+◌, count_by, drop}
-use Rattle.ct_ore.specs.Naming.{has_operator, namings_of}
+use Rattle.ct_problem.proofs.Base.{◌≡◌, ◌≤◌, ◌+◌, drop, has_operator, namings_of}
+use Rattle.std.proofs.Common.{count_by}
 use Rattle.ct_problem.proofs.reading.names.operator_count.Given as goal
 
 abbrev pub invariant-loop-info : goal.invariant-loop-info

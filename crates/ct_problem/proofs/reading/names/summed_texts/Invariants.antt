@@ -1,6 +1,4 @@
-use Rattle.std.proofs.Common.{◌≡◌, ◌++◌, drop}
-use Rattle.ct_ore.specs.Naming.{namings_of}
-use Rattle.ct_problem.specs.Names.{summed_texts}
+use Rattle.ct_problem.proofs.Base.{◌≡◌, ◌++◌, drop, namings_of, summed_texts}
 use Rattle.ct_problem.proofs.reading.names.summed_texts.Given as goal
 
 abbrev pub invariant-loop-info : goal.invariant-loop-info

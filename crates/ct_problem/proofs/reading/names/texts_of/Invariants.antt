@@ -1,4 +1,4 @@
-use Rattle.std.proofs.Common.{◌≡◌, map, take}
+use Rattle.ct_problem.proofs.Base.{◌≡◌, map, take}
 use Rattle.ct_problem.proofs.DifferentTexts.{text_of}
 use Rattle.ct_problem.proofs.reading.names.texts_of.Given as goal
 

@@ -1,6 +1,4 @@
-use Rattle.std.proofs.Common.{◌≡◌, ◌≤◌, ◌+◌, take}
-use Rattle.ct_checked.specs.Limits.{largest_norm}
-use Rattle.ct_problem.specs.Number.{value_of}
+use Rattle.ct_problem.proofs.Base.{◌≡◌, ◌≤◌, ◌+◌, take, largest_norm, value_of}
 use Rattle.ct_problem.proofs.reading.numbers.value_of.Given as goal
 
 abbrev pub invariant-loop-b : goal.invariant-loop-b

@@ -1,4 +1,4 @@
-use Rattle.std.proofs.Common.{◌∙◌, sym}
+use Rattle.ct_problem.proofs.Base.{◌∙◌, sym}
 use Rattle.ct_problem.proofs.Plainness.{one_byte, no_byte, after_all-None}
 use Rattle.ct_problem.proofs.reading.plain.last_line.Goals as goal
 

@@ -1,6 +1,4 @@
-use Rattle.std.proofs.Common.{◌≡◌, drop, Some}
-use Rattle.ct_problem.specs.Plain.{after_all}
-use Rattle.ct_problem.specs.declared.reading.plain.Line.TheVariants.{Ended}
+use Rattle.ct_problem.proofs.Base.{◌≡◌, drop, Some, after_all, Ended}
 use Rattle.ct_problem.proofs.reading.plain.last_line.Given as goal
 
 abbrev pub invariant-loop-b : goal.invariant-loop-b

@@ -1,5 +1,4 @@
-use Rattle.std.proofs.Common.{◌≡◌, ◌+◌, ◌-◌, []}
-use Rattle.ct_problem.specs.ReportLines.{cofactors_from}
+use Rattle.ct_problem.proofs.Base.{◌≡◌, ◌+◌, ◌-◌, [], cofactors_from}
 use Rattle.ct_problem.proofs.reading.report_lines.cofactors.Given as goal
 
 abbrev pub invariant-loop-turn : goal.invariant-loop-turn

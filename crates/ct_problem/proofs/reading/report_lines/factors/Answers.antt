@@ -1,7 +1,4 @@
-use Rattle.std.proofs.Common.{rules, arith}
-use Rattle.std.proofs.lemmas.Grind.{common_steps}
-use Rattle.ct_problem.specs.ReportLines.{factors_of}
-use Rattle.ct_expr.proofs.Turns.{one_item, no_item}
+use Rattle.ct_problem.proofs.Base.{rules, arith, common_steps, factors_of, one_item, no_item}
 use Rattle.ct_problem.proofs.reading.report_lines.factors.Goals as goal
 
 pub returns-in_err-part : goal.returns-in_err-part

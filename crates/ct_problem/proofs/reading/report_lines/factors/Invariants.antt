@@ -1,5 +1,4 @@
-use Rattle.std.proofs.Common.{◌≡◌, [], drop}
-use Rattle.ct_problem.specs.ReportLines.{factors_of}
+use Rattle.ct_problem.proofs.Base.{◌≡◌, [], drop, factors_of}
 use Rattle.ct_problem.proofs.reading.report_lines.factors.Given as goal
 
 abbrev pub invariant-loop-text : goal.invariant-loop-text

@@ -1,7 +1,4 @@
-use Rattle.std.proofs.Common.{rules, arith}
-use Rattle.std.proofs.lemmas.Grind.{common_steps}
-use Rattle.ct_problem.specs.ReportLines.{quotients_from}
-use Rattle.ct_expr.proofs.Turns.{one_item, no_item}
+use Rattle.ct_problem.proofs.Base.{rules, arith, common_steps, quotients_from, one_item, no_item}
 use Rattle.ct_problem.proofs.reading.report_lines.quotients.Goals as goal
 
 pub returns-in_err-quotient : goal.returns-in_err-quotient

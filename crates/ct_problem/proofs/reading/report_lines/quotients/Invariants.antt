@@ -1,5 +1,4 @@
-use Rattle.std.proofs.Common.{◌≡◌, [], drop}
-use Rattle.ct_problem.specs.ReportLines.{quotients_from}
+use Rattle.ct_problem.proofs.Base.{◌≡◌, [], drop, quotients_from}
 use Rattle.ct_problem.proofs.reading.report_lines.quotients.Given as goal
 
 abbrev pub invariant-loop-text : goal.invariant-loop-text

@@ -1,7 +1,4 @@
-use Rattle.std.proofs.Common.{rules, tests}
-use Rattle.std.proofs.lemmas.Iterator.{YieldsList-from_slice}
-use Rattle.std.proofs.lemmas.Iterator.Search.{any_from_yields_List}
-use Rattle.ct_token.specs.Lexical.{is_line_end}
+use Rattle.ct_problem.proofs.Base.{rules, tests, YieldsList-from_slice, any_from_yields_List, is_line_end}
 use Rattle.ct_problem.proofs.Cursors.{has_line_end-any}
 use Rattle.ct_problem.proofs.reading.tokens.has_line_end.Goals as goal
 

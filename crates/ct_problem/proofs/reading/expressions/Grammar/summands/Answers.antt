@@ -1,7 +1,4 @@
-use Rattle.std.proofs.Common.{rules, arith}
-use Rattle.std.proofs.lemmas.Grind.{common_steps}
-use Rattle.ct_problem.specs.Expressions.{nested, summands, summands_from}
-use Rattle.ct_expr.proofs.Turns.{one_more, no_more}
+use Rattle.ct_problem.proofs.Base.{rules, arith, common_steps, nested, summands, summands_from, one_more, no_more}
 use Rattle.ct_problem.proofs.reading.expressions.Grammar.summands.Goals as goal
 
 pub loop-turn-init : goal.loop-turn-init

@@ -1,5 +1,4 @@
-use Rattle.std.proofs.Common.{◌≡◌, ◌-◌}
-use Rattle.ct_problem.specs.Expressions.{nested, summands, summands_from}
+use Rattle.ct_problem.proofs.Base.{◌≡◌, ◌-◌, nested, summands, summands_from}
 use Rattle.ct_problem.proofs.reading.expressions.Grammar.summands.Given as goal
 
 abbrev pub invariant-loop-turn : goal.invariant-loop-turn

@@ -1,5 +1,4 @@
-use Rattle.std.proofs.Common.{◌≡◌, map}
-use Rattle.std.specs.Str.{bytes_eq}
+use Rattle.ct_problem.proofs.Base.{◌≡◌, map, bytes_eq}
 use Rattle.ct_problem.proofs.AddedTexts.{items_of}
 use Rattle.ct_problem.proofs.Places.{position-map}
 use Rattle.ct_problem.proofs.reading.name_table.NameTable.place_of.Goals as goal

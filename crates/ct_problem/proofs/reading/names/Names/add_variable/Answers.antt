@@ -1,5 +1,4 @@
-use Rattle.std.proofs.Common.{◌≡◌}
-use Rattle.ct_problem.specs.Cursor.{names_of}
+use Rattle.ct_problem.proofs.Base.{◌≡◌, names_of}
 use Rattle.ct_problem.proofs.KnownTexts.{new-texts}
 use Rattle.ct_problem.proofs.reading.names.Names.add_variable.Goals as goal
 

@@ -1,8 +1,4 @@
-use Rattle.std.proofs.Common.{◌≡◌}
-use Rattle.std.proofs.lemmas.List.{length-map}
-use Rattle.ct_ore.specs.Naming.{naming_of}
-use Rattle.ct_problem.specs.Cursor.{names_of}
-use Rattle.ct_problem.specs.Names.{known}
+use Rattle.ct_problem.proofs.Base.{◌≡◌, length-map, naming_of, names_of, known}
 use Rattle.ct_problem.proofs.KnownTexts.{known-texts, known-within}
 use Rattle.ct_problem.proofs.reading.names.Names.known.Goals as goal
 

@@ -1,4 +1,4 @@
-use Rattle.std.proofs.Common.{arith}
+use Rattle.ct_problem.proofs.Base.{arith}
 use Rattle.ct_problem.proofs.DifferentTexts.{all_texts}
 use Rattle.ct_problem.proofs.reading.names.Names.of.Goals as goal
 

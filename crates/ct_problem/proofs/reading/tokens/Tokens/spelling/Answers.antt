@@ -1,6 +1,5 @@
-use Rattle.std.proofs.Common.{◌≡◌, Some, rules}
+use Rattle.ct_problem.proofs.Base.{◌≡◌, Some, rules, spelling_in, symbol_of}
 use Rattle.ct_token.specs.declared.token.Symbol.TheVariants.{Word}
-use Rattle.ct_problem.specs.Input.{spelling_in, symbol_of}
 use Rattle.ct_problem.proofs.Cursors.{word_spelled}
 use Rattle.ct_problem.proofs.reading.tokens.Tokens.spelling.Goals as goal
 
