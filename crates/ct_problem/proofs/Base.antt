@@ -102,7 +102,7 @@ unfoldable pub use Rattle.ct_problem.specs.ReadProblem.{body, ending, head, lack
 pub use Rattle.ct_problem.specs.ReadReport.{found}
 unfoldable pub use Rattle.ct_problem.specs.ReadReport.{report_of}
 pub use Rattle.ct_problem.specs.ReportLines.{report}
-unfoldable pub use Rattle.ct_problem.specs.ReportLines.{cofactors_from, factors_of, quotients_from}
+unfoldable pub use Rattle.ct_problem.specs.ReportLines.{cofactors_from}
 pub use Rattle.ct_problem.specs.WellFormed.{AreDens, AreDensOf, AreForms, AreGenerators, Each, IsForm, IsGens, IsOperator, IsPolynomial, IsQuotient}
 pub use Rattle.ct_problem.specs.WellFormed.{IsRange, IsReportOn}
 pub use Rattle.ct_problem.specs.declared.fault.BadInput.{BadInput}

@@ -73,13 +73,13 @@ passed i l rest head plain s = record { whole = by i.left head s.whole }
 pub Follows-past : (i : Input) (l : Lexeme) (rest : List Lexeme) → shown i ≡ l ∷ rest → ends_line l ≡ false → Follows i (next i)
 Follows-past i l rest head plain = Follows-next i (passed i l rest head plain)
 
-fresh_of : (i j : Input) (x : Unit {0}) (b : Bool) (o : Option ℕ) → has_line_end i.left ≡ b → i.bad ≡ o → fresh_by b o i ≡ Ok (x, j) → (i ≡ j) × Settled i
-fresh_of i j x true o e f h = let pairs : ◌≡◌ {A = Unit {0} × Input} (tt, i) (x, j) = cc in (ap (λ (r : Unit {0} × Input). r.1) pairs, record { whole = λ left none. absurd (false≢true (sym none ∙ e)) })
-fresh_of i j x false None e f h = let pairs : ◌≡◌ {A = Unit {0} × Input} (tt, i) (x, j) = cc in (ap (λ (r : Unit {0} × Input). r.1) pairs, record { whole = λ left none. f })
+fresh_of : (i j : Input) (x : Unit {0}) (b : Bool) (o : Option ℕ) → has_line_end i.left ≡ b → i.bad ≡ o → fresh_by b o i ≡ Ok (x, j) → (i ≡ j) × (has_line_end i.left ≡ false → i.bad ≡ None)
+fresh_of i j x true o e f h = let pairs : ◌≡◌ {A = Unit {0} × Input} (tt, i) (x, j) = cc in (ap (λ (r : Unit {0} × Input). r.1) pairs, λ none. absurd (false≢true (sym none ∙ e)))
+fresh_of i j x false None e f h = let pairs : ◌≡◌ {A = Unit {0} × Input} (tt, i) (x, j) = cc in (ap (λ (r : Unit {0} × Input). r.1) pairs, λ none. f)
 fresh_of i j x false (Some at) e f h = cc
 
 -- a step to a line takes nothing
-pub fresh_line-settles : (i j : Input) (x : Unit {0}) → fresh_line i ≡ Ok (x, j) → (i ≡ j) × Settled i
+pub fresh_line-settles : (i j : Input) (x : Unit {0}) → fresh_line i ≡ Ok (x, j) → (i ≡ j) × (has_line_end i.left ≡ false → i.bad ≡ None)
 unfolding fresh_line
 fresh_line-settles i j x h = fresh_of i j x (has_line_end i.left) i.bad refl refl h
 

@@ -47,11 +47,6 @@ pub mod TakenAtoms
 pub mod TakenTerms
 pub mod TakenExpressions
 pub mod TakenLines
-pub mod TakenReports
-pub mod TakenReportTexts
-pub mod SpelledReports
-pub mod PlainEnds
-pub mod SpelledReportTexts
 pub mod LineStarts
 pub mod TakenValues
 pub mod TakenNames
@@ -61,6 +56,11 @@ pub mod TakenDens
 pub mod TakenBodies
 pub mod TakenEnds
 pub mod TakenProblems
+pub mod Rules
+pub mod RuleLists
+pub mod LineRules
+pub mod ReportRules
+pub mod ReportTexts
 pub mod LexemeCounts
 pub mod OneReading
 pub mod ReadTexts

@@ -2,7 +2,7 @@
 use Rattle.ct_problem.proofs.Base.{◌≡◌, ℕ, Some, Result, Ok, sym, ap, ◌∙◌, BadInput, TextsStandForOneProblem, TextsStandForOneReport, Reading}
 use Rattle.ct_problem.proofs.LexemeCounts.{cofactors_fit}
 use Rattle.ct_problem.proofs.TakenProblems.{problem_taken}
-use Rattle.ct_problem.proofs.TakenReportTexts.{report_taken}
+use Rattle.ct_problem.proofs.ReportTexts.{report_taken}
 
 pub one_problem : TextsStandForOneProblem
 one_problem command bytes p q at to first second =

@@ -115,7 +115,7 @@ pub Goes-line_end : Goes nothing line_end (λ _. one LineEnd)
 Goes-line_end i j x e = by (line_end-gives i j x e)
   where
     by : LineEnded i j → Going nothing (one LineEnd) i j
-    by (LineEnded.ended s) = record {
+    by (LineEnded.ended s fresh) = record {
       follows = s.follows;
       spelled = λ before none left. record { used = s.used; parts = s.parts; spells = subst (λ (ls : List Lexeme). one LineEnd (ls ++ s.used)) (sym none) s.spells; follows = s.follows };
     }

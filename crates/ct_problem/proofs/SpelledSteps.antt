@@ -16,7 +16,7 @@ use Rattle.ct_problem.proofs.Following.{fresh_line-settles}
 -- ---- the ends of lines
 
 pub data LineEnded (i j : Input) : Type 0 where
-  ended : Spelled (one LineEnd) i j → LineEnded i j
+  ended : Spelled (one LineEnd) i j → (has_line_end j.left ≡ false → j.bad ≡ None) → LineEnded i j
   at_end : i ≡ j → i.left ≡ [] → LineEnded i j
 
 stays : (i j : Input) (x : Unit {0}) → ◌≡◌ {A = Outcome (Unit {0})} (Ok (tt, i)) (Ok (x, j)) → i ≡ j
@@ -29,7 +29,9 @@ none_left (t ∷ ts) e = cc
 line_end_of : (i j : Input) (x : Unit {0}) → (o : Option Symbol) → input.symbol i ≡ o → line_end_by o i ≡ Ok (x, j) → LineEnded i j
 line_end_of i j x (Some symbol.LineEnd) e h =
     let fresh = fresh_line-settles (next i) j x h in
-    LineEnded.ended (subst (λ (k : Input). Spelled (one LineEnd) i k) fresh.0 (taken_so LineEnd i (shown-symbol i symbol.LineEnd e) (λ s. fresh.1)))
+    LineEnded.ended
+    (subst (λ (k : Input). Spelled (one LineEnd) i k) fresh.0 (taken_so LineEnd i (shown-symbol i symbol.LineEnd e) (λ s. record { whole = λ _. fresh.1 })))
+    (subst (λ (k : Input). has_line_end k.left ≡ false → k.bad ≡ None) fresh.0 fresh.1)
 line_end_of i j x (Some symbol.Word) e h = cc
 line_end_of i j x (Some symbol.Number) e h = cc
 line_end_of i j x (Some (symbol.Sign s)) e h = cc

@@ -44,7 +44,7 @@ tokens_are command p i k at s l =
 -- the first line is stepped to
 head_settles : (i j : Input) (h : List Naming × List Definition) → head i ≡ Ok (h, j) → Settled i
 unfolding head
-head_settles i j h e = let f = first_read fresh_line _ i j h e in (fresh_line-settles i f.left f.value f.first).1
+head_settles i j h e = let f = first_read fresh_line _ i j h e in record { whole = λ _. (fresh_line-settles i f.left f.value f.first).1 }
 
 pub problem_is : (command : Command) (i j : Input) (r : Reading × ℕ) → problem command i ≡ Ok (r, j) → IsRead command r.0 i r.1
 unfolding problem

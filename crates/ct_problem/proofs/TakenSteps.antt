@@ -71,7 +71,7 @@ module _ (bad : Option ℕ) where
   Takes-line_end i used rest here e u after =
       let head = headed bad i used rest LineEnd e u in
       let t = Takes-fresh_line (next i) [] rest here (next-shown i rest LineEnd head) refl after in
-      record { left = t.left; reads = ap (λ (o : Option Symbol). line_end_by o i) (shows_line_end i rest head) ∙ t.reads; shows = t.shows; follows = Follows-then i (next i) t.left (Follows-next i (λ s. (fresh_line-settles (next i) t.left tt t.reads).1)) t.follows }
+      record { left = t.left; reads = ap (λ (o : Option Symbol). line_end_by o i) (shows_line_end i rest head) ∙ t.reads; shows = t.shows; follows = Follows-then i (next i) t.left (Follows-next i (λ s. record { whole = λ _. (fresh_line-settles (next i) t.left tt t.reads).1 })) t.follows }
 
   -- ---- `..`
 

@@ -17,7 +17,7 @@ use Rattle.ct_problem.specs.declared.fault.BadKind.TheVariants.{OutOfRange, Trai
 use Rattle.ct_problem.specs.declared.report.Quotient.{Quotient}
 use Rattle.ct_problem.specs.declared.report.Report.{Report}
 use Rattle.ct_problem.specs.Declarations.{declared}
-use Rattle.ct_problem.specs.Input.{Parser, ◌>>=◌, ◌>>◌, pure, fault, expect, expect_word, line_end}
+use Rattle.ct_problem.specs.Input.{Parser, ◌>>=◌, ◌>>◌, pure, fault, syntax, expect, expect_word, line_end}
 use Rattle.ct_problem.specs.Limits.{largest_index}
 use Rattle.ct_problem.specs.Lines.{header, value, part}
 use Rattle.ct_problem.specs.Names.{Names, summed_texts}
@@ -35,6 +35,13 @@ found_line = do
   line_end
   pure (index, order, degree)
 
+-- by this rule, for each of the texts
+unfoldable pub each_of : {X : Type 0} → (List ℕ → Parser X) → List (List ℕ) → List X → Parser (List X)
+each_of line [] found = pure found
+each_of line (text ∷ texts) found = do
+  x ← line text
+  each_of line texts (found ++ x ∷ [])
+
 module _ (names : Names) where
   unfoldable pub quotient : List ℕ → Parser Quotient
   quotient text = do
@@ -42,18 +49,8 @@ module _ (names : Names) where
     denominator ← part names (codes "denominator") text false
     pure (record { numerator = numerator; denominator = denominator })
 
-  -- of the summed names with these texts
-  unfoldable pub quotients_from : List (List ℕ) → List Quotient → Parser (List Quotient)
-  quotients_from [] found = pure found
-  quotients_from (text ∷ texts) found = do
-    q ← quotient text
-    quotients_from texts (found ++ q ∷ [])
-
-  unfoldable pub factors_of : List (List ℕ) → List Expr → Parser (List Expr)
-  factors_of [] found = pure found
-  factors_of (text ∷ texts) found = do
-    x ← part names (codes "part") text false
-    factors_of texts (found ++ x ∷ [])
+  abbrev pub factor : List ℕ → Parser Expr
+  factor text = part names (codes "part") text false
 
   unfoldable pub cofactor : ℕ → Parser Expr
   cofactor number = do
@@ -82,20 +79,34 @@ at_end_by (x ∷ xs) = fault TrailingText
 unfoldable pub at_end : Parser (Unit {0})
 at_end = λ i. at_end_by i.left i
 
+abbrev pub full_end_by : {X : Type 0} → List X → Parser (Unit {0})
+full_end_by [] = syntax
+full_end_by (x ∷ xs) = line_end
+
+-- the end of a line, which the end of the text doesn't stand for
+unfoldable pub full_line_end : Parser (Unit {0})
+full_line_end = λ i. full_end_by i.left i
+
 unfoldable pub finish : Parser (Unit {0})
 finish = do
   expect_word (codes "end")
-  line_end
+  full_line_end
   at_end
 
-unfoldable pub report : List Naming → ℕ → Parser Report
-report variables count = do
+-- the lines before the last one
+unfoldable pub report_lines : List Naming → ℕ → Parser Report
+report_lines variables count = do
   header (codes "report")
   place ← found_line
   telescoper ← keyed (declared variables) (codes "telescoper") true
-  quotients ← quotients_from (declared variables) (summed_texts variables) []
+  quotients ← each_of (quotient (declared variables)) (summed_texts variables) []
   scale ← keyed (declared variables) (codes "scale") false
-  factors ← factors_of (declared variables) (summed_texts variables) []
+  factors ← each_of (factor (declared variables)) (summed_texts variables) []
   cofactors ← cofactors_from (declared variables) 1 count []
-  finish
   pure (record { index = place.0; order = place.1; degree = place.2; telescoper = telescoper; quotients = quotients; scale = scale; factors = factors; cofactors = cofactors })
+
+unfoldable pub report : List Naming → ℕ → Parser Report
+report variables count = do
+  r ← report_lines variables count
+  finish
+  pure r

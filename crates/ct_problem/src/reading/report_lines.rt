@@ -27,6 +27,22 @@ pub fn report(
     requires { names.now.lets ≡ [] }
     ensures { Reads (spec.report names.now.variables generators tokens.old) result tokens.new }
 {
+    let found = report_lines(alloc, names, tokens, generators)?;
+    finish(tokens)?;
+    Ok(found)
+}
+
+/// The lines before the last one.
+#[tactic(auto, unfolding(crate::specs::ReportLines::report_lines))]
+fn report_lines(
+    alloc: Global,
+    names: &Names,
+    tokens: &mut Tokens<'_>,
+    generators: usize,
+) -> Result<Report, ReadFault>
+    requires { names.now.lets ≡ [] }
+    ensures { Reads (spec.report_lines names.now.variables generators tokens.old) result tokens.new }
+{
     let summed = summed_texts(alloc, names.variables())?;
     header(tokens, b"report")?;
     let (index, order, degree) = found_line(tokens)?;
@@ -35,7 +51,6 @@ pub fn report(
     let scale = keyed(alloc, names, tokens, b"scale", false)?;
     let factors = factors(alloc, names, tokens, summed.as_slice())?;
     let cofactors = cofactors(alloc, names, tokens, generators)?;
-    finish(tokens)?;
     Ok(Report {
         index,
         order,
@@ -86,7 +101,7 @@ fn quotients(
     tokens: &mut Tokens<'_>,
     summed: &[Items<u8>],
 ) -> Result<Items<Quotient>, ReadFault>
-    ensures { Reads (spec.quotients_from names.now summed.now [] tokens.old) result tokens.new }
+    ensures { Reads (spec.each_of (spec.quotient names.now) summed.now [] tokens.old) result tokens.new }
 {
     let mut found = Items::new(alloc);
     for text in summed {
@@ -118,7 +133,7 @@ fn factors(
     tokens: &mut Tokens<'_>,
     summed: &[Items<u8>],
 ) -> Result<Items<Expr>, ReadFault>
-    ensures { Reads (spec.factors_of names.now summed.now [] tokens.old) result tokens.new }
+    ensures { Reads (spec.each_of (spec.factor names.now) summed.now [] tokens.old) result tokens.new }
 {
     let mut found = Items::new(alloc);
     for text in summed {
@@ -162,10 +177,21 @@ fn finish(tokens: &mut Tokens<'_>) -> Result<(), ReadFault>
     ensures { Reads (spec.finish tokens.old) result tokens.new }
 {
     tokens.expect_word(b"end")?;
-    tokens.line_end()?;
+    full_line_end(tokens)?;
     if tokens.count() == 0 {
         Ok(())
     } else {
         Err(tokens.fault(BadKind::TrailingText))
     }
+}
+
+/// The end of a line, which the end of the text doesn't stand for.
+#[tactic(auto, unfolding(crate::specs::ReportLines::full_line_end))]
+fn full_line_end(tokens: &mut Tokens<'_>) -> Result<(), ReadFault>
+    ensures { Reads (spec.full_line_end tokens.old) result tokens.new }
+{
+    if tokens.count() == 0 {
+        return Err(tokens.fault(BadKind::Syntax));
+    }
+    tokens.line_end()
 }

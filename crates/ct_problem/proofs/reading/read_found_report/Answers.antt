@@ -1,8 +1,7 @@
 use Rattle.ct_problem.proofs.Base.{◌≡◌, ◌+◌, ◌<◌, ◌≤◌, length, None, Some, ap, arith, rules, common_steps, Scanned, scan_of, scans_are_tokens}
 use Rattle.ct_problem.proofs.Base.{report_of, largest_norm}
 use Rattle.ct_problem.proofs.Cursors.{IsCursor-later}
-use Rattle.ct_problem.proofs.SpelledReportTexts.{report_spelled}
-use Rattle.ct_problem.proofs.TakenReportTexts.{gives_no_report}
+use Rattle.ct_problem.proofs.ReportTexts.{report_spelled, gives_no_report}
 use Rattle.ct_problem.proofs.WellFormedReports.{report_formed}
 use Rattle.ct_problem.proofs.reading.read_found_report.Goals as goal
 
