@@ -2,7 +2,6 @@
 -- The measures of its terms, gathered, are at most those of the terms as they were found.
 use Rattle.std.proofs.Common.{◌≡◌, refl, ◌*◌, ◌≤◌, List, [], ◌∷◌, length, Ok, Some, sym, ◌∙◌, ap, arith, mul-le-mul_right}
 use Rattle.ct_algebra.specs.Polynomial.{Polynomial, times, count, norm}
-use Rattle.ct_checked.specs.Limits.{most_terms}
 use Rattle.ct_poly.specs.declared.term.Term.{Term}
 use Rattle.ct_poly.specs.Cells.{IsQuotient}
 use Rattle.ct_poly.specs.Division.{checked_quotient}
@@ -12,10 +11,7 @@ use Rattle.ct_poly.proofs.FittingQuotients.{fitting_quotient}
 use Rattle.ct_poly.proofs.TermLists.{terms_of, count_of-terms, norm_of-terms}
 use Rattle.ct_poly.proofs.Values.{IsKept}
 
-module _ {ps fs qs v : List Term} (found : IsQuotient ps fs qs) (list : IsListOf (poly_of_terms qs) (length qs) (size_of qs) v) where
-  few_terms : length qs ≤ most_terms
-  few_terms = omega (arith, found.room.few, factor_le (length qs) (length fs) found.some)
-
+module _ {ps fs qs v : List Term} (found : IsQuotient (poly_of_terms ps) (length ps) (size_of ps) fs qs) (list : IsListOf (poly_of_terms qs) (length qs) (size_of qs) v) where
   pub cells_answer : {p f : Polynomial} → IsKept p ps → IsKept f fs → checked_quotient p f ≡ Ok (Some (poly_of_terms qs))
   cells_answer {p} {f} mine its = by fs refl
     where
@@ -38,6 +34,6 @@ module _ {ps fs qs v : List Term} (found : IsQuotient ps fs qs) (list : IsListOf
       by [] fs_are = absurd (found.some (ap length fs_are))
       by (u ∷ us) fs_are =
           fitting_quotient p f q (entry u) (entries us) (sym (terms_of fs its.falling its.value) ∙ ap entries fs_are)
-          (ap (times q) (sym its.value) ∙ found.value ∙ mine.value) (omega (arith, counts, few_terms)) (omega (arith, norms, found.room.fits))
+          (ap (times q) (sym its.value) ∙ found.value ∙ mine.value) (omega (arith, counts, found.room.few, factor_le (length qs) (length fs) found.some)) (omega (arith, norms, found.room.fits))
           (omega (arith, found.room.few, count_of-terms ps mine.falling mine.value, mul-le-mul_right (count f) counts, ap (λ n. length qs * n) by_count))
           (omega (arith, found.room.small, norm_of-terms ps mine.falling mine.value, mul-le-mul_right (norm f) norms, ap (λ n. size_of qs * n) by_norm))

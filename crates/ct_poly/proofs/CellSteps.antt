@@ -2,7 +2,8 @@
 -- functions of `cell_division` cite.
 -- Each step takes one term times the divisor from the table, so the table stays the dividend without the terms so far times
 -- the divisor; where all cells are zero, this difference is zero.
-use Rattle.std.proofs.Common.{◌≡◌, ◌≢◌, refl, ℕ, zero, suc, ◌+◌, ◌*◌, ◌≤◌, ◌<◌, ℤ, pos, neg_ℤ, nat_abs, List, [], ◌∷◌, ◌++◌, All, length, replicate, slice_index_or, sym, ◌∙◌, ap, ap₂, subst, subst₂, arith, length-append}
+use Rattle.std.proofs.Common.{◌≡◌, ◌≢◌, refl, ℕ, zero, suc, ◌+◌, ◌*◌, ◌≤◌, ◌<◌, ℤ, pos, neg_ℤ, nat_abs, List, [], ◌∷◌, ◌++◌, All, length, replicate, slice_index_or, Option, Some, sym, ◌∙◌, ap, ap₂, subst, subst₂, arith, length-append}
+use Rattle.std.specs.Prelude.{IfSome}
 use Rattle.std.proofs.lemmas.List.{get_or-replicate, length-replicate}
 use Rattle.std.proofs.lemmas.List.Sums.{sum_by-cons, sum_by-append}
 use Rattle.ct_algebra.specs.Group.{zero_add}
@@ -18,7 +19,7 @@ use Rattle.ct_checked.specs.Limits.{most_terms, largest_norm}
 use Rattle.ct_poly.specs.declared.cells.Spot.{Spot}
 use Rattle.ct_poly.specs.declared.division.Measure.{Measure}
 use Rattle.ct_poly.specs.declared.term.Term.{Term}
-use Rattle.ct_poly.specs.Cells.{AllHaveRoom, IsTable, IsTableOf, IsDivisor, IsQuotient, HasRoom, AreInBox, AreMultiplesInBox, most_cells, cells_of, cell_of, spot, spots, added, size_of_cells, size_of_spots}
+use Rattle.ct_poly.specs.Cells.{IsTable, IsTableOf, IsDivisor, IsQuotient, HasRoom, AreInBox, AreMultiplesInBox, most_cells, cells_of, cell_of, spot, spots, added, size_of_cells, size_of_spots}
 use Rattle.ct_poly.specs.Measures.{minus}
 use Rattle.ct_poly.specs.Terms.{entries, poly_of_terms, size_of}
 use Rattle.ct_poly.proofs.BoundingBoxes.{divides_product}
@@ -26,6 +27,10 @@ use Rattle.ct_poly.proofs.CellNumbers.{cell_small, cell_of-·}
 use Rattle.ct_poly.proofs.DivisionSteps.{term-neg}
 use Rattle.ct_poly.proofs.Tables.{AreZero, table_of_zeros, table_added, zero_table}
 use Rattle.ct_poly.proofs.TermLists.{poly_of-append, poly_of-none, poly_of-one}
+
+-- what a clause says of the value in an option that is there
+pub some_is : {A : Type 0} (P : A → Type 0) {o : Option A} {x : A} → o ≡ Some x → IfSome o P → P x
+some_is P is holds = subst (λ o. IfSome o P) is holds
 
 -- ---- spots
 
@@ -53,7 +58,7 @@ spots_inside tops u n cell ts n_is cell_is each = by ts each
 
 -- ---- the table of the dividend
 
-zeros_size : (cells : List ℤ) → AreZero cells → size_of_cells cells ≡ 0
+pub zeros_size : (cells : List ℤ) → AreZero cells → size_of_cells cells ≡ 0
 zeros_size [] zeros = refl
 zeros_size (c ∷ cs) zeros =
     let first : c ≡ pos 0 = zeros 0 c (omega arith) in
@@ -97,16 +102,18 @@ pub factor_le : (a b : ℕ) → b ≢ 0 → a ≤ a * b
 factor_le a zero some = absurd (some refl)
 factor_le a (suc b) some = omega arith
 
--- the table has what is left of ps without qs times fs
-pub record IsTakenOut (ps fs qs : List Term) (tops : Mono) (cells : List ℤ) : Type 0 where
+-- from a table of n, what is left of n without qs times fs; of n is known how many terms and how large a norm it has at most
+pub record IsTakenOut (start : List ℤ) (count norm : ℕ) (fs qs : List Term) (tops : Mono) (cells : List ℤ) : Type 0 where
   pub some : length fs ≢ 0
-  pub room : AllHaveRoom ps fs qs
-  pub table : IsTable tops (minus (poly_of_terms ps) (times (poly_of_terms qs) (poly_of_terms fs))) cells
-  pub small : size_of_cells cells ≤ size_of ps + size_of qs * size_of fs
+  pub room : HasRoom count norm (length fs) (size_of fs) (length qs) (size_of qs)
+  pub whole : length cells ≡ cells_of tops
+  pub table :
+      (n : Polynomial) → IsTable tops n start → IsTable tops (minus n (times (poly_of_terms qs) (poly_of_terms fs))) cells
+  pub small : size_of_cells cells ≤ norm + size_of qs * size_of fs
 
 -- what is taken out, and its norm
-pub record IsTaking (ps fs qs : List Term) (tops : Mono) (cells : List ℤ) (size below : ℕ) : Type 0 where
-  pub taken : IsTakenOut ps fs qs tops cells
+pub record IsTaking (start : List ℤ) (count norm : ℕ) (fs qs : List Term) (tops : Mono) (cells : List ℤ) (size below : ℕ) : Type 0 where
+  pub taken : IsTakenOut start count norm fs qs tops cells
   pub size_is : size ≡ size_of qs
   pub inside : below ≤ length cells
 
@@ -125,56 +132,61 @@ less_more p q f m c =
 multiples_in : (tops room u : Mono) (ts : List Term) → Divides u room → AreMultiplesInBox tops room ts → AreMultiplesInBox tops u ts
 multiples_in tops room u ts divides each = EachTerm-weaker (λ m c inside. divides_product u room m tops divides inside) (entries ts) each
 
-module _ {ps fs qs : List Term} {tops room : Mono} {ss : List Spot} {lead : Spot} {cells : List ℤ} {size below : ℕ} (d : IsDivisor tops fs ss lead room) (taking : IsTaking ps fs qs tops cells size below)
+module _ {start : List ℤ} {count norm : ℕ} {fs qs : List Term} {tops room : Mono} {ss : List Spot} {lead : Spot} {cells : List ℤ} {size below : ℕ} (d : IsDivisor tops fs ss lead room) (taking : IsTaking start count norm fs qs tops cells size below)
     (u : Term) {cell : ℕ} (divides : Divides u.mono room) (cell_is : cell ≡ cell_of tops u.mono) where
   pub step_inside : All (λ s. cell + s.cell < length cells) ss
   step_inside =
       subst (All (λ s. cell + s.cell < length cells)) (sym d.same)
-      (spots_inside tops u.mono (length cells) cell fs taking.taken.table.whole cell_is (multiples_in tops room u.mono fs divides d.products_in))
+      (spots_inside tops u.mono (length cells) cell fs taking.taken.whole cell_is (multiples_in tops room u.mono fs divides d.products_in))
 
-  module _ {count norm : ℕ} (count_is : count ≡ length qs + 1) (norm_is : norm ≡ size + nat_abs u.coef) (fits : HasRoom (length ps) (size_of ps) (length fs) (size_of fs) count norm) where
-    sizes : norm ≡ size_of (qs ++ u ∷ [])
+  module _ {more_count more_norm : ℕ} (count_is : more_count ≡ length qs + 1) (norm_is : more_norm ≡ size + nat_abs u.coef) (fits : HasRoom count norm (length fs) (size_of fs) more_count more_norm) where
+    sizes : more_norm ≡ size_of (qs ++ u ∷ [])
     sizes = omega (arith, norm_is, taking.size_is, size_end qs u)
 
-    grown : size_of_cells cells + nat_abs u.coef * size_of_spots ss ≤ size_of ps + norm * size_of fs
+    grown : size_of_cells cells + nat_abs u.coef * size_of_spots ss ≤ norm + more_norm * size_of fs
     grown =
         omega (arith, taking.taken.small, ap (λ n. nat_abs u.coef * n) (ap size_of_spots d.same ∙ size-spots tops fs), ap (λ n. n * size_of fs) norm_is, ap (λ n. n * size_of fs) taking.size_is)
+
+    -- the sizes of the cells leave room for the step
+    pub step_small : size_of_cells cells + nat_abs u.coef * size_of_spots ss ≤ largest_norm
+    step_small = omega (arith, grown, fits.small)
 
     pub taking_more :
         (z : ℤ) {next : List ℤ} {more : List Term} {at : ℕ} → z ≡ neg_ℤ u.coef → next ≡ added cell z cells ss →
         size_of_cells next ≤ size_of_cells cells + nat_abs z * size_of_spots ss → more ≡ qs ++ u ∷ [] → at < below →
-        IsTaking ps fs more tops next norm at
-    taking_more z {next} {more} {at} z_is next_is small more_is lower =
-        subst (λ m. IsTaking ps fs m tops next norm at) (sym more_is) (record {
+        length next ≡ length cells → IsTaking start count norm fs more tops next more_norm at
+    taking_more z {next} {more} {at} z_is next_is small more_is lower long =
+        subst (λ m. IsTaking start count norm fs m tops next more_norm at) (sym more_is) (record {
           taken = record {
             some = taking.taken.some;
-            room = subst₂ (λ a b. HasRoom (length ps) (size_of ps) (length fs) (size_of fs) a b) (count_is ∙ sym (length-append qs (u ∷ []))) sizes fits;
+            room = subst₂ (λ a b. HasRoom count norm (length fs) (size_of fs) a b) (count_is ∙ sym (length-append qs (u ∷ []))) sizes fits;
+            whole = long ∙ taking.taken.whole;
             table = table;
             small = omega (arith, small, grown, ap (λ n. n * size_of_spots ss) (ap nat_abs z_is ∙ abs-neg u.coef), ap (λ n. n * size_of fs) sizes);
           };
           size_is = sizes;
-          inside = omega (arith, taking.inside, table.whole, taking.taken.table.whole, lower);
+          inside = omega (arith, taking.inside, long, lower);
         })
       where
-        value : plus (minus (poly_of_terms ps) (times (poly_of_terms qs) (poly_of_terms fs))) (times (term u.mono (neg_ℤ u.coef)) (poly_of_terms fs)) ≡ minus (poly_of_terms ps) (times (poly_of_terms (qs ++ u ∷ [])) (poly_of_terms fs))
-        value =
-            less_more (poly_of_terms ps) (poly_of_terms qs) (poly_of_terms fs) u.mono u.coef
-            ∙ ap (λ q. minus (poly_of_terms ps) (times q (poly_of_terms fs))) (sym (poly_of-append qs (u ∷ []) ∙ ap (polys.◌+◌ (poly_of_terms qs)) (poly_of-one u)))
+        value : (n : Polynomial) → plus (minus n (times (poly_of_terms qs) (poly_of_terms fs))) (times (term u.mono (neg_ℤ u.coef)) (poly_of_terms fs)) ≡ minus n (times (poly_of_terms (qs ++ u ∷ [])) (poly_of_terms fs))
+        value n =
+            less_more n (poly_of_terms qs) (poly_of_terms fs) u.mono u.coef
+            ∙ ap (λ q. minus n (times q (poly_of_terms fs))) (sym (poly_of-append qs (u ∷ []) ∙ ap (polys.◌+◌ (poly_of_terms qs)) (poly_of-one u)))
 
         cells_are : added cell z cells ss ≡ added (cell_of tops u.mono) (neg_ℤ u.coef) cells (spots tops fs)
         cells_are = λ i. added (cell_is i) (z_is i) cells (d.same i)
 
-        table : IsTable tops (minus (poly_of_terms ps) (times (poly_of_terms (qs ++ u ∷ [])) (poly_of_terms fs))) next
-        table =
-            subst₂ (λ p cs. IsTable tops p cs) value (sym (next_is ∙ cells_are))
-            (table_added u.mono (neg_ℤ u.coef) fs taking.taken.table (multiples_in tops room u.mono fs divides d.products_in))
+        table : (n : Polynomial) → IsTable tops n start → IsTable tops (minus n (times (poly_of_terms (qs ++ u ∷ [])) (poly_of_terms fs))) next
+        table n begins =
+            subst₂ (λ p cs. IsTable tops p cs) (value n) (sym (next_is ∙ cells_are))
+            (table_added u.mono (neg_ℤ u.coef) fs (taking.taken.table n begins) (multiples_in tops room u.mono fs divides d.products_in))
 
 pub measures_have_room :
-    (ps fs : List Term) {dividend divisor : Measure} {n size : ℕ} → dividend ≡ record { count = length ps; norm = size_of ps } →
-    divisor ≡ record { count = length fs; norm = size_of fs } → HasRoom dividend.count dividend.norm divisor.count divisor.norm n size →
-    HasRoom (length ps) (size_of ps) (length fs) (size_of fs) n size
-measures_have_room ps fs {dividend} {divisor} {n} {size} first second room =
-    subst₂ (λ a b. HasRoom a.count a.norm b.count b.norm n size) first second room
+    (fs : List Term) {dividend divisor : Measure} {n size : ℕ} → divisor ≡ record { count = length fs; norm = size_of fs } →
+    HasRoom dividend.count dividend.norm divisor.count divisor.norm n size →
+    HasRoom dividend.count dividend.norm (length fs) (size_of fs) n size
+measures_have_room fs {dividend} {divisor} {n} {size} same room =
+    subst (λ b. HasRoom dividend.count dividend.norm b.count b.norm n size) same room
 
 -- ---- the start and the end
 
@@ -189,24 +201,28 @@ same_of p q none =
     sym (ring2 polys p q (λ p q. (search reify depth 12, search reify depth 12)) refl ∙ ap (λ w. polys.◌+◌ w q) none ∙ zero_add polys.group q)
 
 pub taking_start :
-    {ps fs found : List Term} {tops room : Mono} {ss : List Spot} {lead : Spot} {cells : List ℤ} {below : ℕ} → length ps ≤ most_terms →
-    size_of ps ≤ largest_norm → IsTableOf ps tops cells → IsDivisor tops fs ss lead room → found ≡ [] → below ≡ length cells →
-    IsTaking ps fs found tops cells 0 below
-taking_start {ps} {fs} {found} {tops} {room} {ss} {lead} {cells} {below} few small table d empty below_is =
-    subst (λ q. IsTaking ps fs q tops cells 0 below) (sym empty) (record {
+    {fs found : List Term} {tops room : Mono} {ss : List Spot} {lead : Spot} {cells : List ℤ} {count norm below : ℕ} →
+    count ≤ most_terms → norm ≤ largest_norm → length cells ≡ cells_of tops → size_of_cells cells ≤ norm →
+    IsDivisor tops fs ss lead room → found ≡ [] → below ≡ length cells →
+    IsTaking cells count norm fs found tops cells 0 below
+taking_start {fs} {found} {tops} {room} {ss} {lead} {cells} {count} {norm} {below} few small whole size d empty below_is =
+    subst (λ q. IsTaking cells count norm fs q tops cells 0 below) (sym empty) (record {
       taken = record {
         some = d.some;
         room = record { few = omega (arith, few); small = omega (arith, small); fits = omega arith };
-        table = subst (λ p. IsTable tops p cells) (sym (nothing_taken (poly_of_terms ps) (poly_of_terms fs))) table.table;
-        small = omega (arith, table.small);
+        whole = whole;
+        table = λ n begins. subst (λ p. IsTable tops p cells) (sym (nothing_taken n (poly_of_terms fs))) begins;
+        small = omega (arith, size);
       };
       size_is = refl;
       inside = omega (arith, below_is);
     })
 
-pub nothing_left : {ps fs qs : List Term} {tops : Mono} {cells : List ℤ} → IsTakenOut ps fs qs tops cells → AreZero cells → IsQuotient ps fs qs
-nothing_left {ps} {fs} {qs} {tops} {cells} taken zeros = record {
+pub nothing_left :
+    {start cells : List ℤ} {count norm : ℕ} {fs qs : List Term} {tops : Mono} → IsTakenOut start count norm fs qs tops cells →
+    AreZero cells → (n : Polynomial) → IsTable tops n start → IsQuotient n count norm fs qs
+nothing_left {start} {cells} {count} {norm} {fs} {qs} {tops} taken zeros n begins = record {
   some = taken.some;
   room = taken.room;
-  value = same_of (poly_of_terms ps) (times (poly_of_terms qs) (poly_of_terms fs)) (zero_table tops _ cells taken.table zeros);
+  value = same_of n (times (poly_of_terms qs) (poly_of_terms fs)) (zero_table tops _ cells (taken.table n begins) zeros);
 }

@@ -35,3 +35,5 @@ pub mod BoundingBoxes
 pub mod CellSteps
 pub mod GatheredTerms
 pub mod CellAnswers
+pub mod Crossings
+pub mod CrossCells

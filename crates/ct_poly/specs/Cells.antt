@@ -10,11 +10,13 @@
 --     IsTableOf ts tops cells            a table of the terms ts, in a box that is small enough
 --     IsDivisor tops fs ss lead room     what a division by the terms fs knows: their spots, and how large a quotient is
 --     HasRoom                            the measures of a dividend, a divisor and a quotient leave room for all steps
---     IsQuotient ps fs qs                the terms qs times fs are ps, and there is room for all steps
+--     IsQuotient n count norm fs qs      the terms qs times fs are n, and there is room for all steps
+--     AreProductsInBox tops ps qs        the products of all monomials of two lists are in the box
+--     IsMultiplied tops start ps qs cells    the product of two lists is added to a table
 -- Different monomials have different cells, and that alone makes a table true.
 use Rattle.std.specs.Prelude.{◌≡◌, ◌≢◌, ℕ, zero, suc, ◌+◌, ◌*◌, ◌≤◌, ℤ, ◌+ℤ◌, ◌*ℤ◌, pos, nat_abs, List, [], ◌∷◌, length, map, sum_by, slice_index_or, slice_set}
 use Rattle.ct_algebra.specs.Monomial.{Mono, exp, ◌·◌}
-use Rattle.ct_algebra.specs.Polynomial.{Polynomial, coefficient, times}
+use Rattle.ct_algebra.specs.Polynomial.{Polynomial, coefficient, plus, times}
 use Rattle.ct_algebra.specs.Terms.{EachTerm}
 use Rattle.ct_mono.specs.Division.{Divides}
 use Rattle.ct_checked.specs.Limits.{most_terms, largest_norm}
@@ -90,11 +92,19 @@ pub record HasRoom (count norm by_count by_norm quotient_count quotient_norm : �
   pub small : norm + quotient_norm * by_norm ≤ largest_norm
   pub fits : quotient_norm ≤ largest_norm
 
-abbrev pub AllHaveRoom : List Term → List Term → List Term → Type 0
-AllHaveRoom ps fs qs = HasRoom (length ps) (size_of ps) (length fs) (size_of fs) (length qs) (size_of qs)
-
--- an exact quotient that leaves room for all steps
-pub record IsQuotient (ps fs qs : List Term) : Type 0 where
+-- an exact quotient of n, which leaves room for all steps; of n is known how many terms and how large a norm it has at most
+pub record IsQuotient (n : Polynomial) (count norm : ℕ) (fs qs : List Term) : Type 0 where
   pub some : length fs ≢ 0
-  pub room : AllHaveRoom ps fs qs
-  pub value : times (poly_of_terms qs) (poly_of_terms fs) ≡ poly_of_terms ps
+  pub room : HasRoom count norm (length fs) (size_of fs) (length qs) (size_of qs)
+  pub value : times (poly_of_terms qs) (poly_of_terms fs) ≡ n
+
+-- the products of all monomials of two lists are in the box
+abbrev pub AreProductsInBox : Mono → List Term → List Term → Type 0
+AreProductsInBox tops ps qs = EachTerm (λ m c. AreMultiplesInBox tops m qs) (entries ps)
+
+-- from a table of n, one of n and the product of two lists
+pub record IsMultiplied (tops : Mono) (start : List ℤ) (ps qs : List Term) (cells : List ℤ) : Type 0 where
+  pub whole : length cells ≡ cells_of tops
+  pub small : size_of_cells cells ≤ size_of_cells start + size_of ps * size_of qs
+  pub table :
+      (n : Polynomial) → IsTable tops n start → IsTable tops (plus n (times (poly_of_terms ps) (poly_of_terms qs))) cells

@@ -11,4 +11,5 @@ pub mod Powers
 pub mod Accumulation
 pub mod Cells
 pub mod MeasureLaws
+pub mod Crossing
 pub mod ShiftLaws

@@ -24,7 +24,7 @@ pub(crate) fn greatest_exponents(ts: &[Term]) -> Option<Monomial>
     Some(greatest)
 }
 
-fn common_multiple(m: &Monomial, n: &Monomial) -> Option<Monomial>
+pub(crate) fn common_multiple(m: &Monomial, n: &Monomial) -> Option<Monomial>
     ensures { IfSome result (λ w. Divides m.now w × Divides n.now w) }
 {
     let mut multiple = *m;

@@ -3,8 +3,9 @@
 ghost use Rattle.std.specs.Prelude.{◌≡◌, ◌≢◌, ◌+◌, ◌≤◌, ◌<◌, All, IfOk, IfSome, IsTrue, length, pos, replicate, unsigned_abs};
 ghost use Rattle.ct_mono.specs.Division.{Divides};
 ghost use Rattle.ct_checked.specs.Limits.{most_terms, largest_norm};
-ghost use Rattle.ct_poly.specs.Cells.{AreInBox, AreMultiplesInBox, HasRoom, IsDivisor, IsQuotient, IsTableOf, cell_of, cells_of, most_cells, spots};
-ghost use Rattle.ct_poly.specs.Terms.{size_of};
+ghost use Rattle.ct_algebra.specs.Polynomial.{Polynomial};
+ghost use Rattle.ct_poly.specs.Cells.{AreInBox, AreMultiplesInBox, HasRoom, IsDivisor, IsQuotient, IsTable, IsTableOf, cell_of, cells_of, most_cells, size_of_cells, spots};
+ghost use Rattle.ct_poly.specs.Terms.{poly_of_terms, size_of};
 
 use crate::boxes::{cell_of, greatest_exponents, mono_at, number_of_cells};
 use crate::cells::{Spot, add_multiple};
@@ -26,7 +27,7 @@ struct Table {
 
 /// A divisor at its cells, the highest of its spots, and the greatest exponents that a quotient has.
 #[derive(Drop)]
-struct Divisor {
+pub(crate) struct Divisor {
     spots: Vec<Spot>,
     lead: Spot,
     room: Monomial,
@@ -40,7 +41,7 @@ pub(crate) fn quotient_in_cells(
 ) -> Result<Option<Vec<Term>>, NoMemory>
     requires counts { (length ps.now ≤ most_terms) × (length by.now ≤ most_terms) }
     requires norms { (size_of ps.now ≤ largest_norm) × (size_of by.now ≤ largest_norm) }
-    ensures { IfOk result (λ o. IfSome o (λ q. IsQuotient ps.now by.now q.items)) }
+    ensures { IfOk result (λ o. IfSome o (λ q. IsQuotient (poly_of_terms ps.now) (length ps.now) (size_of ps.now) by.now q.items)) }
 {
     let Some(mut table) = table_of_terms(alloc, ps)? else {
         return Ok(None);
@@ -53,7 +54,7 @@ pub(crate) fn quotient_in_cells(
         table.cells.as_mut_slice(),
         &table.tops,
         &divisor,
-        ps,
+        measure_of_terms(ps),
         by,
     )
 }
@@ -77,21 +78,25 @@ fn table_of_terms(alloc: Global, ts: &[Term]) -> Result<Option<Table>, NoMemory>
 }
 
 /// How many cells pay for so many terms.
-fn most_cells_for(terms: usize) -> usize
+pub(crate) fn most_cells_for(terms: usize) -> usize
     requires { terms ≤ most_terms }
     ensures { (0 < result) × (result ≤ most_cells) }
 {
     (64 * (terms + 64)).min(MOST_CELLS)
 }
 
-fn zeros(alloc: Global, number: usize) -> Result<Vec<i128>, NoMemory>
+pub(crate) fn zeros(alloc: Global, number: usize) -> Result<Vec<i128>, NoMemory>
     ensures { IfOk result (λ v. v.items ≡ replicate number (pos 0)) }
 {
     vec![in alloc; 0i128; number]
 }
 
 /// The spots of a list whose monomials are in the box.
-fn spots_of_terms(alloc: Global, tops: &Monomial, ts: &[Term]) -> Result<Vec<Spot>, NoMemory>
+pub(crate) fn spots_of_terms(
+    alloc: Global,
+    tops: &Monomial,
+    ts: &[Term],
+) -> Result<Vec<Spot>, NoMemory>
     requires few { cells_of tops.now ≤ most_cells }
     requires inside { AreInBox tops.now ts.now }
     ensures { IfOk result (λ v. v.items ≡ spots tops.now ts.now) }
@@ -106,7 +111,7 @@ fn spots_of_terms(alloc: Global, tops: &Monomial, ts: &[Term]) -> Result<Vec<Spo
     Ok(out)
 }
 
-fn divisor_of_terms(
+pub(crate) fn divisor_of_terms(
     alloc: Global,
     tops: &Monomial,
     by: &[Term],
@@ -148,21 +153,22 @@ fn highest_spot(spots: &[Spot]) -> Option<Spot>
 }
 
 /// The terms whose multiples of the divisor are taken from the table, from the highest cell down, where nothing is left then.
-fn taken_out(
+/// What the table holds has at most the terms and the norm of the dividend's measure.
+pub(crate) fn taken_out(
     alloc: Global,
     cells: &mut [i128],
     tops: &Monomial,
     divisor: &Divisor,
-    ps: &[Term],
+    dividend: Measure,
     by: &[Term],
 ) -> Result<Option<Vec<Term>>, NoMemory>
-    requires counts { (length ps.now ≤ most_terms) × (length by.now ≤ most_terms) }
-    requires norms { (size_of ps.now ≤ largest_norm) × (size_of by.now ≤ largest_norm) }
-    requires table { IsTableOf ps.now tops.now cells.old }
+    requires counts { (dividend.count ≤ most_terms) × (length by.now ≤ most_terms) }
+    requires norms { (dividend.norm ≤ largest_norm) × (size_of by.now ≤ largest_norm) }
+    requires cells { (length cells.old ≡ cells_of tops.now) × (cells_of tops.now ≤ most_cells) }
+    requires small { size_of_cells cells.old ≤ dividend.norm }
     requires divisor { IsDivisor tops.now by.now divisor.now.spots.items divisor.now.lead divisor.now.room }
-    ensures { IfOk result (λ o. IfSome o (λ q. IsQuotient ps.now by.now q.items)) }
+    ensures { IfOk result (λ o. IfSome o (λ q. (n : Polynomial) → IsTable tops.now n cells.old → IsQuotient n dividend.count dividend.norm by.now q.items)) }
 {
-    let dividend = measure_of_terms(ps);
     let by_measure = measure_of_terms(by);
     let mut found = Vec::new(alloc);
     let mut norm = 0u128;

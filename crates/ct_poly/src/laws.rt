@@ -4,6 +4,7 @@ ghost use Rattle.std.specs.Cmp.{IsTotalOrder};
 ghost use Rattle.std.specs.declared.cmp.Ordering.TheVariants.{Equal};
 ghost use Rattle.ct_algebra.specs.Polynomial.{Polynomial};
 ghost use Rattle.ct_poly.specs.ContentLaws.{ContentIsGreatest, CommonMonomialIsGreatest, PartsMakeWhole, PrimitivePartIsPrimitive, PrimitiveFormIsPrimitive};
+ghost use Rattle.ct_poly.specs.Crossing.{CrossQuotientsFit};
 ghost use Rattle.ct_poly.specs.DivisionLaws.{EachDivisionStepFalls, DivisionGoesByTurns};
 ghost use Rattle.ct_poly.specs.MeasureLaws.{SumFitsWhereMeasuresDo, ProductFitsWhereMeasuresDo, ProductWithZeroFits, CheckedValuesAreExact, SumsAreWithinMeasures, ProductsAreWithinMeasures, ShiftsAreWithinMeasures, DerivativesAreWithinMeasures};
 ghost use Rattle.ct_poly.specs.Order.{poly_cmp};
@@ -98,4 +99,10 @@ pub fn primitive_form_is_primitive()
 pub fn order_is_total()
     ensures total { IsTotalOrder poly_cmp }
     ensures tied { (p q : Polynomial) → poly_cmp p q ≡ Equal → p ≡ q }
+{}
+
+/// Where the measures leave room for both products, the difference and all steps of the division, an exact quotient of p·x − a·y
+/// is the one that the checked steps find.
+pub fn cross_quotients_fit_where_measures_do()
+    ensures { CrossQuotientsFit }
 {}

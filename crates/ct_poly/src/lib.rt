@@ -14,6 +14,7 @@ mod boxes;
 mod cell_division;
 mod cells;
 mod content;
+mod crossing;
 mod derivative;
 mod division;
 #[cfg(test)]
@@ -33,14 +34,15 @@ mod term;
 mod tests;
 mod whole;
 
+pub use crossing::cross_quotient;
 pub use ct_mono::{Fault, Kind, LARGEST_DEGREE, LARGEST_NORM, MOST_TERMS, Monomial, NoMemory};
 pub use laws::{
     checked_values_are_exact, common_monomial_is_greatest, content_is_greatest,
-    derivatives_are_within_measures, division_goes_by_turns, each_division_step_falls,
-    order_is_total, parts_make_whole, primitive_form_is_primitive, primitive_part_is_primitive,
-    product_fits_where_measures_do, product_with_zero_fits, products_are_within_measures,
-    shift_is_substitution, shifts_are_within_measures, sum_fits_where_measures_do,
-    sums_are_within_measures, symbols_shift_and_derive,
+    cross_quotients_fit_where_measures_do, derivatives_are_within_measures, division_goes_by_turns,
+    each_division_step_falls, order_is_total, parts_make_whole, primitive_form_is_primitive,
+    primitive_part_is_primitive, product_fits_where_measures_do, product_with_zero_fits,
+    products_are_within_measures, shift_is_substitution, shifts_are_within_measures,
+    sum_fits_where_measures_do, sums_are_within_measures, symbols_shift_and_derive,
 };
 pub use poly::Poly;
 pub use split::Split;

@@ -6,7 +6,7 @@ ghost use Rattle.ct_algebra.specs.Polynomial.{polys, plus, count, norm};
 ghost use Rattle.ct_algebra.specs.Substitution.{term, number, name};
 ghost use Rattle.ct_checked.specs.Checked.{Answers};
 ghost use Rattle.ct_checked.specs.Limits.{most_terms, largest_norm};
-ghost use Rattle.ct_poly.specs.Terms.{entries, IsFalling, size_of};
+ghost use Rattle.ct_poly.specs.Terms.{entries, IsFalling, IsListOf, size_of};
 ghost use Rattle.ct_poly.specs.Measures.{sum_overflow, product_overflow, checked_plus, checked_minus, checked_times, checked_shifted, checked_derived};
 
 use crate::derivative::{derivative_of_terms, derivative_size_of_terms};
@@ -106,6 +106,13 @@ impl Poly {
     /// The terms, monomials falling.
     pub fn terms(&self) -> &[Term]
         ensures { entries result.now ≡ self.now.terms }
+    {
+        self.terms.as_slice()
+    }
+
+    /// The terms, with what is known of the list that is kept.
+    pub(crate) fn list(&self) -> &[Term]
+        ensures { IsListOf self.now most_terms largest_norm result.now }
     {
         self.terms.as_slice()
     }
