@@ -84,11 +84,11 @@ module _ (a : Name → Action) {V : Type 0} (W : Module polys (polynomials a) V)
       passed : Polynomial
       passed = by_action (a s.name) (sigma a s.name d) (delta a s.name d) polys.zero
 
-  abbrev Divides : Polynomial → Summand → Type 0
+  abbrev pub Divides : Polynomial → Summand → Type 0
   Divides h s = h ≡ times s.factor (difference_denominator a s)
 
   -- what the sum of all H·E makes is h times the sum of the differences
-  apply-differences :
+  pub apply-differences :
       (h : Polynomial) (v : V) (ss : List Summand) (ws : List V) → All (Divides h) ss →
       EachCleared a W (λ p. apply a W p v) ss ws → apply a W (differences a ss) v ≡ W.scale h (sum_of_differences a W ss ws)
   apply-differences h v [] [] divides exact = apply-no_operator a W v ∙ sym (scale-zero W h)

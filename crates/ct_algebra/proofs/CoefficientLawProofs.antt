@@ -20,7 +20,7 @@ use Rattle.ct_algebra.proofs.CoefficientLaws.{exp-inside, exp-outside, inside-·
 
 -- ---- chosen places are those of the names
 
-chosen_of : (js : List Name) (i : Name) (k : ℕ) → k < length js → get_or js k i ≡ i → is_chosen js (place i) ≡ true
+pub chosen_of : (js : List Name) (i : Name) (k : ℕ) → k < length js → get_or js k i ≡ i → is_chosen js (place i) ≡ true
 chosen_of [] i k small here = absurd (omega arith)
 chosen_of (j ∷ js) i zero small here = ap (λ b. cond b true (is_chosen js (place i))) (eq-eqb (place i) (place j) (ap place (sym here)))
 chosen_of (j ∷ js) i (suc k) small here = by (eqb (place i) (place j)) (chosen_of js i k (omega arith) here)
@@ -29,7 +29,7 @@ chosen_of (j ∷ js) i (suc k) small here = by (eqb (place i) (place j)) (chosen
     by true rest = refl
     by false rest = rest
 
-one_of : (js : List Name) (i : Name) → is_chosen js (place i) ≡ true → Contains js i
+pub one_of : (js : List Name) (i : Name) → is_chosen js (place i) ≡ true → Contains js i
 one_of [] i chosen = cc
 one_of (j ∷ js) i chosen = by (eqb (place i) (place j)) refl chosen (one_of js i)
   where
@@ -64,7 +64,7 @@ module _ (js : List Name) (e : Mono) where
           let chosen = chosen_of js (name_with k) there.0 there.1 there.2 in
           absurd (let told : is_chosen js k ≡ true = ap (is_chosen js) (sym (place-name_with k small)) ∙ chosen in cc)
 
-  inside_whole : IsIn js e → inside js e ≡ e
+  pub inside_whole : IsIn js e → inside js e ≡ e
   inside_whole within = same_mono _ _ (λ k small. exp-inside js e k small ∙ by k small (is_chosen js k) refl)
     where
       by : (k : ℕ) → k < 6 → (b : Bool) → is_chosen js k ≡ b → cond b (exp e k) 0 ≡ exp e k
@@ -80,7 +80,7 @@ module _ (js : List Name) (e : Mono) where
       by k small false other = not_chosen within k small other
 
 -- the names' part of a monomial contains no other names
-inside_within : (js : List Name) (n : Mono) → IsIn js (inside js n)
+pub inside_within : (js : List Name) (n : Mono) → IsIn js (inside js n)
 inside_within js n i some = one_of js i (by (is_chosen js (place i)) (λ none. some (exp-inside js n (place i) (place_small i) ∙ none)))
   where
     by : (b : Bool) → (cond b (exp n (place i)) 0 ≡ 0 → ⊥) → b ≡ true
@@ -89,7 +89,7 @@ inside_within js n i some = one_of js i (by (is_chosen js (place i)) (λ none. s
 
 -- ---- single terms
 
-term_in-same : (js : List Name) (e n : Mono) (c : ℤ) → inside js n ≡ e → term_in js e n c ≡ term (outside js n) c
+pub term_in-same : (js : List Name) (e n : Mono) (c : ℤ) → inside js n ≡ e → term_in js e n c ≡ term (outside js n) c
 term_in-same js e n c same =
     ap (λ r. by_order r polys.zero (term (outside js n) c) polys.zero) (ap (λ k. mono_cmp k e) same ∙ mono_same e)
 

@@ -66,7 +66,7 @@ module _ {M A : Type 0} (O : Keys M) (G : Group A) where
       ((0, omega arith, refl), EachTerm-weaker (λ m c there. (suc there.0, omega (arith, there.1), there.2)) es (each_inside es))
 
   module _ (p : Sum O G) where
-    each_at : EachTerm (λ m c. (at O G p m ≡ c) × (c ≢ G.zero)) p.terms
+    pub each_at : EachTerm (λ m c. (at O G p m ≡ c) × (c ≢ G.zero)) p.terms
     unfolding at
     each_at = each_value p.terms p.canonical
 
@@ -75,7 +75,7 @@ module _ {M A : Type 0} (O : Keys M) (G : Group A) where
     stands = at_each (λ m c. Contains p.terms (m, c)) p.terms p.canonical (each_inside p.terms)
 
     -- a fact about each term is one about each value that is not zero
-    by_values : (P : M → A → Type 0) → EachTerm P p.terms ↔ ((m : M) → at O G p m ≢ G.zero → P m (at O G p m))
+    pub by_values : (P : M → A → Type 0) → EachTerm P p.terms ↔ ((m : M) → at O G p m ≢ G.zero → P m (at O G p m))
     unfolding at
     by_values P = (
       at_each P p.terms p.canonical,

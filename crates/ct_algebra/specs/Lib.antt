@@ -13,6 +13,7 @@ pub mod Operators
 pub mod OnPolynomials
 pub mod FreeOf
 pub mod Leading
+pub mod Membership
 pub mod Coefficients
 -- the field of fractions
 pub mod Fractions

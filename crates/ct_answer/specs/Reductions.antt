@@ -4,8 +4,8 @@
 --     reduced_text names rs  the whole text, with the targets counted from 1
 use Rattle.std.specs.Prelude.{ℕ, ◌+◌, List, [], ◌∷◌, ◌++◌, codes, decimal}
 use Rattle.ct_algebra.specs.Operators.{Operator}
+use Rattle.ct_algebra.specs.Membership.{Reduction}
 use Rattle.ct_ore.specs.Naming.{Naming}
-use Rattle.ct_reduce.specs.Membership.{Reduction}
 use Rattle.ct_answer.specs.Text.{polynomial_text, operator_text}
 
 abbrev pub line_of : List ℕ → List ℕ

@@ -2,13 +2,12 @@
 -- `first_is_first`. Cited by `Searching` and by the laws of steps.
 use Rattle.std.specs.Prelude.{◌≡◌, ℕ, zero, suc, ◌+◌, ◌<◌, None, Some, List, [], ◌∷◌, refl, length, get_or, MatchOption}
 use Rattle.std.proofs.Common.{Option, sym, ◌∙◌, ap, arith, subst}
-use Rattle.ct_algebra.specs.Leading.{leading, OperatorLeads}
+use Rattle.ct_algebra.specs.Leading.{leading, OperatorLeads, LeadingDivides, IsIrreducible}
 use Rattle.ct_algebra.specs.Monomial.{Mono, monomials, ◌·◌}
 use Rattle.ct_algebra.specs.Polynomial.{Polynomial, polys}
 use Rattle.ct_algebra.specs.Operators.{Operator, no_operator}
 use Rattle.ct_algebra.proofs.LeadingTerms.{leading-Leads, Leads-leading}
 use Rattle.ct_mono.specs.Division.{over_is, over_none}
-use Rattle.ct_reduce.specs.Membership.{LeadingDivides, IsIrreducible}
 use Rattle.ct_reduce.specs.Reduction.{Reducer, or_later, over_leading, reducer_by, first_reducer_from, first_reducer}
 use Rattle.ct_reduce.specs.ReductionLaws.{IsFirstReducer}
 
@@ -16,7 +15,8 @@ use Rattle.ct_reduce.specs.ReductionLaws.{IsFirstReducer}
 
 pub over_leading_none : (m : Mono) (g : Operator) → over_leading m (leading g.terms) ≡ None → ¬ LeadingDivides g m
 over_leading_none m g none w =
-    over_none m w.mono (sym (ap (over_leading m) (leading-Leads monomials polys.group g w.mono w.coef w.leads)) ∙ none) w.divides
+    over_none m w.mono (sym (ap (over_leading m) (leading-Leads monomials polys.group g w.mono w.coef w.leads)) ∙ none)
+    (w.quotient, w.product)
 
 -- the leading monomial that divides
 pub record Over (m : Mono) (g : Operator) (t : Mono) : Type 0 where

@@ -13,6 +13,7 @@ use Rattle.ct_algebra.specs.Names.{Name}
 use Rattle.ct_algebra.specs.Polynomial.{Polynomial, polys, plus, plus_is, times, times_is}
 use Rattle.ct_algebra.specs.Actions.{Action}
 use Rattle.ct_algebra.specs.Operators.{Operator, polynomial_at, sum_of_operators, negative, term_of, product_of, multiple}
+use Rattle.ct_algebra.specs.Membership.{Reduction}
 use Rattle.ct_algebra.proofs.AppliedOperators.{multiple-product_of}
 use Rattle.ct_algebra.proofs.LeadingTerms.{leading-Leads}
 use Rattle.ct_algebra.proofs.OperatorLawProofs.{finite_maps}
@@ -23,7 +24,6 @@ use Rattle.ct_checked.specs.Loop.{Falls, run_is}
 use Rattle.ct_mono.specs.Rank.{rank-less}
 use Rattle.ct_poly.specs.Division.{quotient}
 use Rattle.ct_poly.proofs.DivisionLaws.{quotient_is}
-use Rattle.ct_reduce.specs.Membership.{Reduction}
 use Rattle.ct_reduce.specs.Reduction.{Reducible, leading_coefficient, factor_for, share_for, greatest_reducible, first_reducer, checked_step, reducible_rank, reduction_rank, reduction_from, reduction_turn}
 use Rattle.ct_reduce.proofs.FirstReducers.{stands, over_leading_some}
 use Rattle.ct_reduce.proofs.Searching.{value, IsDone, Found, found}

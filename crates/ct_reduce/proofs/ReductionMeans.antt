@@ -6,10 +6,11 @@ use Rattle.ct_algebra.specs.Names.{Name}
 use Rattle.ct_algebra.specs.Polynomial.{polys}
 use Rattle.ct_algebra.specs.Actions.{Action}
 use Rattle.ct_algebra.specs.Operators.{Operator}
+use Rattle.ct_algebra.specs.Leading.{IsReduced}
+use Rattle.ct_algebra.specs.Membership.{Reduction, ReducesTo}
 use Rattle.ct_checked.specs.Checked.{AnswersBy}
 use Rattle.ct_checked.specs.Loop.{run_keeps}
 use Rattle.ct_checked.specs.declared.fault.Fault.{Fault}
-use Rattle.ct_reduce.specs.Membership.{Reduction, ReducesTo, IsReduced}
 use Rattle.ct_reduce.specs.Reduction.{greatest_reducible, checked_step, reduction_rank, reduction_from, checked_reduction, no_cofactors, start}
 use Rattle.ct_reduce.specs.Views.{reduction_of}
 use Rattle.ct_reduce.specs.declared.reduced.Reduced.{Reduced}

@@ -9,7 +9,8 @@ use Rattle.ct_algebra.specs.Sums.{at}
 use Rattle.ct_algebra.specs.Monomial.{Mono, monomials, mono_cmp, mono_tied, mono_turned}
 use Rattle.ct_algebra.specs.Polynomial.{Polynomial, polys}
 use Rattle.ct_algebra.specs.Operators.{Operator, polynomial_at}
-use Rattle.ct_reduce.specs.Membership.{Reduction, IsIrreducible, IsReduced}
+use Rattle.ct_algebra.specs.Leading.{IsIrreducible, IsReduced}
+use Rattle.ct_algebra.specs.Membership.{Reduction}
 use Rattle.ct_reduce.specs.Reduction.{Reducer, Reducible, or_later, first_reducer, reducible_by, first_reducible, greatest_reducible}
 use Rattle.ct_reduce.specs.ReductionLaws.{IsGreatestReducible}
 use Rattle.ct_reduce.proofs.FirstReducers.{none_reduces, found_is_first}

@@ -10,13 +10,13 @@ use Rattle.ct_algebra.specs.Names.{Name}
 use Rattle.ct_algebra.specs.Polynomial.{Polynomial, polys, times, times_is}
 use Rattle.ct_algebra.specs.Actions.{Action}
 use Rattle.ct_algebra.specs.Operators.{Operator, sum_of_operators, negative, term_of, no_operator, product_of, multiple}
+use Rattle.ct_algebra.specs.Membership.{Reduction}
 use Rattle.ct_algebra.proofs.AppliedOperators.{multiple-one}
 use Rattle.ct_algebra.proofs.ProductRule.{product_of-polynomial}
 use Rattle.ct_checked.specs.Checked.{verdict_ok, both_fit}
 use Rattle.ct_poly.specs.Measures.{checked_times, product_overflow}
 use Rattle.ct_ore.specs.Measures.{checked_sum, checked_difference, difference_of_operators, checked_product, sum_overflow}
 use Rattle.ct_ore.specs.Measures as operators
-use Rattle.ct_reduce.specs.Membership.{Reduction}
 use Rattle.ct_reduce.specs.Reduction.{Reducible, Step, step_for, is_one, checked_plan, checked_multiples, checked_multiplied, multiplied_unless_one, checked_taken, checked_step}
 
 -- ---- values of checked operations

@@ -14,9 +14,9 @@ use Rattle.ct_algebra.specs.Names.{Name}
 use Rattle.ct_algebra.specs.Polynomial.{Polynomial, polys, polys_domain, times_is}
 use Rattle.ct_algebra.specs.Actions.{Action}
 use Rattle.ct_algebra.specs.Operators.{Operator, operator_group, no_operator, sum_of_operators, negative, product_of, product_of-sum_left, multiple, combination}
+use Rattle.ct_algebra.specs.Membership.{Reduction, IsMember, ReducesTo}
 use Rattle.ct_algebra.proofs.OperatorTerms.{sums_are, none_is, negatives_are}
 use Rattle.ct_algebra.proofs.AppliedOperators.{multiple-sum, multiple-multiple, multiple-one, multiple-product_of, multiple-no_operator, no_operator-product_of}
-use Rattle.ct_reduce.specs.Membership.{Reduction, IsMember, ReducesTo}
 use Rattle.ct_reduce.specs.Reduction.{Reducible, Step, leading_coefficient, factor_for, step_for, no_cofactors, start, checked_step, greatest_reducible}
 use Rattle.ct_reduce.proofs.FirstReducers.{found_is_first}
 use Rattle.ct_reduce.proofs.Searching.{found}

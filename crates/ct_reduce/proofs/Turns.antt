@@ -7,9 +7,9 @@ use lib.ListN.{length-set}
 use Rattle.ct_algebra.specs.Names.{Name}
 use Rattle.ct_algebra.specs.Actions.{Action}
 use Rattle.ct_algebra.specs.Operators.{Operator, multiple}
+use Rattle.ct_algebra.specs.Membership.{Reduction}
 use Rattle.ct_checked.specs.Checked.{◌>>=◌}
 use Rattle.ct_checked.specs.Loop.{turn}
-use Rattle.ct_reduce.specs.Membership.{Reduction}
 use Rattle.ct_reduce.specs.Reduction.{Reducible, Step, greatest_reducible, checked_plan, multiplied_unless_one, checked_taken, checked_step, reduction_rank, reduction_from, reduction_turn}
 use Rattle.ct_reduce.proofs.FirstReducers.{found_is_first}
 use Rattle.ct_reduce.proofs.Searching.{found}

@@ -1,4 +1,3 @@
-pub mod Membership
 pub mod Reduction
 pub mod ReductionLaws
 pub mod Views

@@ -13,7 +13,7 @@
 --     checked_reduction a gs p     all steps, from the scale 1, cofactors 0 and the rest p
 -- Where the leading coefficient l of τ∘g divides the coefficient, the factor is 1 and a' the quotient; else the factor is l,
 -- and a' the coefficient. A division that overflows counts as not dividing. A polynomial times an operator is the product of
--- operators. What the search finds and what a reduction shows is said once more by ReductionLaws and Membership.
+-- operators. What the search finds is said once more by ReductionLaws, and what a reduction shows by Membership of ct_algebra.
 use Rattle.std.specs.Prelude.{ℕ, zero, suc, ◌+◌, Ok, None, Some, List, [], ◌∷◌, ◌++◌, map, cond, Bool, get_or}
 use Rattle.std.proofs.Common.{Option}
 use lib.ListN.{set}
@@ -23,6 +23,7 @@ use Rattle.ct_algebra.specs.Names.{Name}
 use Rattle.ct_algebra.specs.Polynomial.{Polynomial, polys}
 use Rattle.ct_algebra.specs.Actions.{Action}
 use Rattle.ct_algebra.specs.Operators.{Operator, term_of, no_operator}
+use Rattle.ct_algebra.specs.Membership.{Reduction}
 use Rattle.ct_checked.specs.Checked.{Checked, ◌>>=◌}
 use Rattle.ct_mono.specs.Division.{over}
 use Rattle.ct_checked.specs.Loop.{run, turn}
@@ -30,7 +31,6 @@ use Rattle.ct_mono.specs.Rank.{mono_rank}
 use Rattle.ct_poly.specs.Division.{quotient}
 use Rattle.ct_poly.specs.Measures.{checked_times}
 use Rattle.ct_ore.specs.Measures.{checked_sum, checked_difference, checked_product}
-use Rattle.ct_reduce.specs.Membership.{Reduction}
 
 -- ---- what is reduced next
 

@@ -11,14 +11,14 @@
 --     RestZeroIsMember              an operator that reduces to zero is a member
 use Rattle.std.specs.Prelude.{◌≡◌, ◌≢◌, ℕ, ◌<◌, Ok, Some, List, length, get_or, MatchOption}
 use Rattle.std.specs.declared.cmp.Ordering.TheVariants.{Less}
-use Rattle.ct_algebra.specs.Leading.{OperatorLeads}
+use Rattle.ct_algebra.specs.Leading.{OperatorLeads, LeadingDivides, IsIrreducible, IsReduced}
 use Rattle.ct_algebra.specs.Monomial.{Mono, mono_cmp, ◌·◌}
 use Rattle.ct_algebra.specs.Names.{Name}
 use Rattle.ct_algebra.specs.Polynomial.{Polynomial, polys, times}
 use Rattle.ct_algebra.specs.Actions.{Action}
 use Rattle.ct_algebra.specs.Operators.{Operator, polynomial_at, no_operator, sum_of_operators, negative, term_of, product_of, multiple}
+use Rattle.ct_algebra.specs.Membership.{Reduction, IsMember, ReducesTo}
 use Rattle.ct_poly.specs.Division.{quotient}
-use Rattle.ct_reduce.specs.Membership.{Reduction, IsMember, ReducesTo, LeadingDivides, IsIrreducible, IsReduced}
 use Rattle.ct_reduce.specs.Reduction.{Reducer, Reducible, first_reducer, greatest_reducible, checked_step, reduction_from, reduction_turn}
 
 pub record IsFirstReducer (m : Mono) (generators : List Operator) (r : Reducer) : Type 0 where

@@ -1,7 +1,7 @@
 -- What the code's own types stand for.
 use Rattle.std.specs.Prelude.{None, Some}
 use Rattle.std.proofs.Common.{Option}
-use Rattle.ct_reduce.specs.Membership.{Reduction}
+use Rattle.ct_algebra.specs.Membership.{Reduction}
 use Rattle.ct_reduce.specs.Reduction.{Reducer, Reducible, Step}
 use Rattle.ct_reduce.specs.declared.reduced.Reduced.{Reduced}
 use Rattle.ct_reduce.specs.declared.search.Reducer.{Reducer as ReducerCode}

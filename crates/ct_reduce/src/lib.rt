@@ -2,7 +2,7 @@
 //!
 //! `left_reduce` gives a nonzero scale, a cofactor for each generator and a rest: the scale times the
 //! operator is the sum of the products of cofactors and generators, plus the rest, and no leading monomial
-//! of a generator divides a monomial of the rest. `specs/Membership.antt` says so.
+//! of a generator divides a monomial of the rest. `Membership` and `Leading` of `ct_algebra` say so.
 //!
 //! Which scale, cofactors and rest these are, and which overflow comes first, is `specs/Reduction.antt`: the
 //! steps in their order, as a checked loop. `laws.rt` says what its search finds.

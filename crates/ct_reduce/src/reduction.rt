@@ -2,7 +2,8 @@
 ghost use Rattle.std.specs.Prelude.{◌≡◌, IfOk, length};
 ghost use Rattle.ct_checked.specs.Checked.{AnswersBy};
 ghost use Rattle.ct_ore.specs.Naming.{actions_of};
-ghost use Rattle.ct_reduce.specs.Membership.{ReducesTo, IsReduced};
+ghost use Rattle.ct_algebra.specs.Leading.{IsReduced};
+ghost use Rattle.ct_algebra.specs.Membership.{ReducesTo};
 ghost use Rattle.ct_reduce.specs.Reduction.{no_cofactors, reduction_from, checked_reduction};
 ghost use Rattle.ct_reduce.specs.Views.{reduction_of};
 

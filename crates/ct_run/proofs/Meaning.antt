@@ -4,6 +4,7 @@
 use Rattle.std.proofs.Common.{◌≡◌, refl, ℕ, ◌+◌, ◌≤◌, List, length, Option, Some, None, Result, Ok, Err, Bool, true, false, if◌then◌else◌, arith}
 use Rattle.ct_algebra.specs.Operators.{Operator}
 use Rattle.ct_algebra.specs.Certificate.{Certificate}
+use Rattle.ct_algebra.specs.Membership.{Reduction}
 use Rattle.ct_checked.specs.Checked.{Checked}
 use Rattle.ct_checked.specs.Limits.{largest_norm}
 use Rattle.ct_ore.specs.Naming.{Naming, IsAlgebra, actions_of, summed_of}
@@ -26,7 +27,6 @@ use Rattle.ct_cert.specs.Testing.{Tested, Fails, Overflows}
 use Rattle.ct_cert.specs.Tests.{tests}
 use Rattle.ct_cert.proofs.Passing.{passing_certifies}
 use Rattle.ct_cert.proofs.Refusing.{failing_refutes}
-use Rattle.ct_reduce.specs.Membership.{Reduction}
 use Rattle.ct_run.specs.Lines.{bad_input, not_yet, zero_generator, overflow_in_setup, overflow_in_report, overflow_in_reduction, no_line, overflow_in_test, verdict_line}
 use Rattle.ct_run.specs.Output.{Output}
 use Rattle.ct_run.specs.Setup.{listed, checked_setup, Plain, Refusal, ZeroGenerator, Overflow, plain_setup}

@@ -8,12 +8,13 @@ use Rattle.std.specs.Prelude.{◌≡◌, ℕ, List, [], ◌∷◌, Result, Ok, E
 use Rattle.ct_algebra.specs.Names.{Name}
 use Rattle.ct_algebra.specs.Actions.{Action}
 use Rattle.ct_algebra.specs.Operators.{Operator}
+use Rattle.ct_algebra.specs.Leading.{IsReduced}
+use Rattle.ct_algebra.specs.Membership.{Reduction, ReducesTo}
 use Rattle.ct_io.specs.declared.command.Command.TheVariants.{Reduce}
 use Rattle.ct_checked.specs.declared.fault.Kind.{Kind}
 use Rattle.ct_checked.specs.Checked.{refused_as}
 use Rattle.ct_checked.specs.Traversal.{checked_each_from}
 use Rattle.ct_ore.specs.Naming.{Naming, actions_of}
-use Rattle.ct_reduce.specs.Membership.{Reduction, ReducesTo, IsReduced}
 use Rattle.ct_reduce.specs.Reduction.{checked_reduction}
 use Rattle.ct_answer.specs.Reductions.{reduced_text}
 use Rattle.ct_problem.specs.GrammarProblem.{StandsFor}
