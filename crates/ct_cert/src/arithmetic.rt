@@ -4,7 +4,6 @@ ghost use Rattle.std.specs.List.{All};
 ghost use Rattle.ct_algebra.specs.Names.{name_with};
 ghost use Rattle.ct_algebra.specs.Operators.{no_operator};
 ghost use Rattle.ct_checked.specs.Checked.{Answers};
-ghost use Rattle.ct_ore.specs.Measures.{checked_combination};
 ghost use Rattle.ct_ore.specs.Naming.{action_of, actions_of};
 ghost use Rattle.ct_ore.specs.Answers.{summand_of};
 ghost use Rattle.ct_cert.specs.Certificates.{IsNamed};
@@ -41,32 +40,6 @@ pub(crate) fn differences(alloc: Global, algebra: &Algebra, parts: &[Part]) -> R
     while let Some((part, more)) = rest.split_first() {
         sum = with_difference(alloc, algebra, sum, part)?;
         rest = more;
-    }
-    Ok(sum)
-}
-
-// A sum with the products of cofactors and generators, one after the other.
-pub(crate) fn with_products(
-    alloc: Global,
-    algebra: &Algebra,
-    start: Op,
-    cofactors: &[Op],
-    generators: &[Op],
-) -> Result<Op, Fault>
-    requires { length cofactors.now ≡ length generators.now }
-    ensures { Answers (checked_combination (actions_of algebra.now) start cofactors.now generators.now) result }
-{
-    let mut sum = start;
-    let mut left = cofactors;
-    let mut right = generators;
-    while let Some((cofactor, more)) = left.split_first() {
-        let Some((generator, others)) = right.split_first() else {
-            return Ok(sum);
-        };
-        let product = cofactor.mul(alloc, algebra, generator)?;
-        sum = sum.into_sum(alloc, product)?;
-        left = more;
-        right = others;
     }
     Ok(sum)
 }

@@ -9,7 +9,7 @@ ghost use Rattle.ct_cert.specs.Arithmetic.{checked_identity};
 ghost use Rattle.ct_cert.specs.Testing.{test_of, AnswersTest};
 ghost use Rattle.ct_cert.specs.Tests.{found_test, telescoper_test, scale_test, denominator_test, part_test, for_each, tests};
 
-use crate::arithmetic::{differences, multiple, part_holds, same_op, with_products};
+use crate::arithmetic::{differences, multiple, part_holds, same_op};
 use crate::freedom::is_free;
 use crate::place::{Place, Stop, Support};
 use ct_mono::Fault;
@@ -90,13 +90,8 @@ fn identity_holds(
 {
     let left = multiple(alloc, algebra, &answer.scale, &answer.telescoper)?;
     let differences = differences(alloc, algebra, answer.parts.as_slice())?;
-    let right = with_products(
-        alloc,
-        algebra,
-        differences,
-        answer.cofactors.as_slice(),
-        generators,
-    )?;
+    let cofactors = answer.cofactors.as_slice();
+    let right = differences.with_products(alloc, algebra, cofactors, generators)?;
     Ok(same_op(&left, &right))
 }
 

@@ -239,20 +239,32 @@ impl Op {
         requires { length cofactors.now ≡ length generators.now }
         ensures { Answers (checked_combination (actions_of algebra.now) no_operator cofactors.now generators.now) result }
     {
-        let mut sum = Op::zero(alloc);
+        Op::zero(alloc).with_products(alloc, algebra, cofactors, generators)
+    }
+
+    /// The operator with the products of cofactors and generators added, one after the other.
+    pub fn with_products(
+        self,
+        alloc: Global,
+        algebra: &Algebra,
+        cofactors: &[Op],
+        generators: &[Op],
+    ) -> Result<Op, Fault>
+        requires { length cofactors.now ≡ length generators.now }
+        ensures { Answers (checked_combination (actions_of algebra.now) self cofactors.now generators.now) result }
+    {
+        let mut sum = self;
         let mut left = cofactors;
         let mut right = generators;
-        'combining: loop {
-            let Some((c, cofactors_rest)) = left.split_first() else {
+        'combining: while let Some((cofactor, more)) = left.split_first() {
+            let Some((generator, others)) = right.split_first() else {
                 return Ok(sum);
             };
-            let Some((g, generators_rest)) = right.split_first() else {
-                return Ok(sum);
-            };
-            let product = c.mul(alloc, algebra, g)?;
+            let product = cofactor.mul(alloc, algebra, generator)?;
             sum = sum.into_sum(alloc, product)?;
-            left = cofactors_rest;
-            right = generators_rest;
+            left = more;
+            right = others;
         }
+        Ok(sum)
     }
 }
