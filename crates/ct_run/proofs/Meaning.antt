@@ -18,7 +18,7 @@ use Rattle.ct_problem.specs.GrammarReport.{ReportStandsFor}
 use Rattle.ct_problem.specs.ReadProblem.{Reading, problem_of}
 use Rattle.ct_problem.specs.ReadReport.{report_of}
 use Rattle.ct_problem.specs.WellFormed.{IsGens, IsReportOn}
-use Rattle.ct_problem.proofs.SpelledReportTexts.{report_spelled}
+use Rattle.ct_problem.proofs.ReportTexts.{report_spelled}
 use Rattle.ct_problem.proofs.SpelledTexts.{problem_spelled}
 use Rattle.ct_problem.proofs.SummedActions.{summed_act}
 use Rattle.ct_problem.proofs.WellFormedProblems.{IsReading, reading_is}
