@@ -1,32 +1,19 @@
 -- What is within the limits and has the names of the list is as the grammar wants it. Main lemmas `entries_fit` and
 -- `operator_entries_fit`: exponents are at most the degree, and numbers at most the norm.
-use Rattle.std.proofs.Common.{◌≡◌, ◌≢◌, ℕ, zero, suc, ◌<◌, ◌≤◌, Bool, true, false, cond, T, ℤ, pos, negsuc, nat_abs, List, [], ◌∷◌, length, Some, refl, ◌∙◌, subst, arith, map, nat_lt, rules, tests}
-use Rattle.std.specs.List.{slice_get}
-use Rattle.std.specs.Prelude.{unsigned_abs}
-use Rattle.std.proofs.lemmas.List.Sums.{sum_by-cons}
-use Rattle.std.proofs.lemmas.Bool.{false≢true}
-use Rattle.ct_algebra.specs.Actions as actions
-use Rattle.ct_algebra.specs.Monomial.{Mono, monomials, exp, total}
-use Rattle.ct_algebra.specs.Names.{Name, place, name_with}
-use Rattle.ct_algebra.specs.Sums.{has_none}
-use Rattle.ct_algebra.specs.Terms.{EachTerm, IsCanonical}
-use Rattle.ct_algebra.specs.Polynomial.{Polynomial, polys, norm, norm_of, degree, degree_greatest}
-use Rattle.ct_algebra.specs.Operators.{Operator}
+use Rattle.ct_answer.proofs.Base.{◌≡◌, ◌≢◌, ℕ, zero, suc, ◌<◌, ◌≤◌, Bool, true, false, cond, T, ℤ, pos, negsuc, nat_abs, List, [], ◌∷◌, length, Some}
+use Rattle.ct_answer.proofs.Base.{refl, ◌∙◌, subst, arith, map, nat_lt, rules, tests, slice_get, unsigned_abs, sum_by-cons, false≢true, Mono}
+use Rattle.ct_answer.proofs.Base.{monomials, exp, total, Name, place, name_with, has_none, EachTerm, IsCanonical, Polynomial, polys, norm, norm_of}
+use Rattle.ct_answer.proofs.Base.{degree, degree_greatest, Operator, int_group, largest_degree, largest_norm, place-name_with, Naming, actions_of}
+use Rattle.ct_answer.proofs.Base.{entries_norm, greatest, term_norm, coefficient_degree, order_of, Each}
 use Rattle.ct_algebra.specs.FreeOf.{IsWithout}
-use Rattle.ct_algebra.specs.WholeNumbers.{int_group}
-use Rattle.ct_checked.specs.Limits.{largest_degree, largest_norm}
-use Rattle.ct_mono.proofs.ExponentLaws.{place-name_with}
-use Rattle.ct_ore.specs.Naming.{Naming, actions_of}
-use Rattle.ct_ore.specs.TermSums.{entries_norm}
-use Rattle.ct_ore.specs.Measures.{greatest, term_norm, coefficient_degree, order_of}
 use Rattle.ct_ore.proofs.PairMeasureLaws.{exp-le-total, known_action, no_action}
-use Rattle.ct_problem.specs.WellFormed.{Each}
 use Rattle.ct_answer.specs.declared.factors.Power.{Power}
 use Rattle.ct_answer.specs.Text.{naming_at, power_at, powers_in, names_in, symbols_in}
 use Rattle.ct_answer.specs.ReadBack.{IsNamed, PolynomialFits, OperatorFits}
 use Rattle.ct_answer.proofs.SpelledPowers.{PowerFits, Each-append}
 use Rattle.ct_answer.proofs.SpelledSums.{EntryFits}
 use Rattle.ct_answer.proofs.SpelledOperators.{OperatorEntryFits}
+use Rattle.ct_algebra.specs.Actions as actions
 
 -- ---- the powers in a monomial
 

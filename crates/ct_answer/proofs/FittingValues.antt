@@ -1,17 +1,8 @@
 -- What is within the limits has terms within the limits. Main lemmas `small_entries` and `small_operator_entries`.
-use Rattle.std.proofs.Common.{◌≤◌, ◌<◌, ℤ, nat_abs, List, [], ◌∷◌, length, map, ap, arith}
-use Rattle.std.proofs.lemmas.List.Sums.{sum_by-cons}
-use Rattle.ct_algebra.specs.Sums.{none}
-use Rattle.ct_algebra.specs.Terms.{EachTerm, IsCanonical}
-use Rattle.ct_algebra.specs.Monomial.{Mono, monomials, total}
-use Rattle.ct_algebra.specs.Polynomial.{Polynomial, polys, count, norm, norm_of, degree, degree_greatest}
-use Rattle.ct_algebra.specs.Operators.{Operator}
-use Rattle.ct_algebra.specs.WholeNumbers.{int_group}
-use Rattle.ct_checked.specs.Limits.{largest_degree, most_terms, largest_norm}
-use Rattle.ct_ore.specs.Naming.{Naming}
-use Rattle.ct_ore.specs.TermSums.{entries_count, entries_norm}
-use Rattle.ct_ore.specs.Measures.{greatest, term_count, term_norm, coefficient_degree, order_of}
-use Rattle.ct_problem.specs.WellFormed.{Each}
+use Rattle.ct_answer.proofs.Base.{◌≤◌, ◌<◌, ℤ, nat_abs, List, [], ◌∷◌, length, map, ap, arith, sum_by-cons, none, EachTerm, IsCanonical, Mono}
+use Rattle.ct_answer.proofs.Base.{monomials, total, Polynomial, polys, count, norm, norm_of, degree, degree_greatest, Operator, int_group}
+use Rattle.ct_answer.proofs.Base.{largest_degree, most_terms, largest_norm, Naming, entries_count, entries_norm, greatest, term_count, term_norm}
+use Rattle.ct_answer.proofs.Base.{coefficient_degree, order_of, Each}
 use Rattle.ct_answer.specs.ReadBack.{OperatorFits}
 use Rattle.ct_answer.proofs.PowerValues.{IsSmall}
 use Rattle.ct_answer.proofs.PolynomialValues.{IsSmallEntry}

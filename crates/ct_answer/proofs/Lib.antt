@@ -1,3 +1,4 @@
+pub mod Base
 pub mod TokensAhead
 pub mod ReadTexts
 pub mod NamePlaces

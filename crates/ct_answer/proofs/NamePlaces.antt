@@ -1,18 +1,16 @@
 -- The names of an algebra as the reader finds them: the first of its letters. Main lemmas `is_variable` and `is_acting`.
-use Rattle.std.proofs.Common.{◌≡◌, ◌≢◌, ℕ, zero, suc, ◌+◌, ◌<◌, Bool, true, false, List, [], ◌∷◌, length, Some, IsTrue, refl, ap, ◌∙◌, arith}
-use Rattle.std.specs.List.{position, position_from, slice_get, list_all}
+use Rattle.ct_answer.proofs.Base.{◌≡◌, ◌≢◌, ℕ, zero, suc, ◌+◌, ◌<◌, Bool, true, false, List, [], ◌∷◌, length, Some, IsTrue, refl, ap, ◌∙◌, arith}
+use Rattle.ct_answer.proofs.Base.{position, position_from, slice_get, list_all, Naming, IsNaming, EachIsNaming, IsOtherText, TextsDiffer, IsAlgebra}
+use Rattle.ct_answer.proofs.Base.{are_word_bytes, declared, IsVariable, IsActing, both}
 use Rattle.std.proofs.lemmas.Option.{slice_get-get_or}
 use Rattle.std.proofs.lemmas.Iterator.Adapters.{position_from-zero}
+use Rattle.ct_ore.specs.Naming.{IsWord}
+use Rattle.ct_problem.specs.Names.{same_action, is_named}
+use Rattle.ct_problem.proofs.ShownSymbols.{same_word, unequal_words}
+use Rattle.ct_answer.specs.Text.{naming_at}
 use Rattle.ct_token.specs.Lexical as lexical
 use Rattle.ct_token.specs.Lexing as lexing
 use Rattle.ct_algebra.specs.Actions as actions
-use Rattle.ct_ore.specs.Naming.{Naming, IsNaming, EachIsNaming, IsOtherText, TextsDiffer, IsAlgebra, IsWord, are_word_bytes}
-use Rattle.ct_problem.specs.Declarations.{declared}
-use Rattle.ct_problem.specs.Names.{same_action, is_named}
-use Rattle.ct_problem.specs.Grammar.{IsVariable, IsActing}
-use Rattle.ct_problem.proofs.ShownSymbols.{same_word, unequal_words}
-use Rattle.ct_expr.proofs.Values.{both}
-use Rattle.ct_answer.specs.Text.{naming_at}
 
 -- ---- words
 

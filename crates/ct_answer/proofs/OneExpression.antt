@@ -1,14 +1,9 @@
 -- A text stands for one expression at most, whose value can be asked for. Main lemmas `one_expression`, `is_operator` and
 -- `is_polynomial`: the reader reads it from the tokens.
-use Rattle.std.proofs.Common.{◌≡◌, ℕ, Bool, true, false, List, [], Ok, refl, sym, ap, ◌∙◌}
-use Rattle.std.proofs.lemmas.List.{append-nil}
-use Rattle.ct_token.specs.Lexical.{scan_of}
-use Rattle.ct_ore.specs.Naming.{Naming, IsAlgebra}
-use Rattle.ct_expr.specs.declared.expr.Expr.{Expr}
+use Rattle.ct_answer.proofs.Base.{◌≡◌, ℕ, Bool, true, false, List, [], Ok, refl, sym, ap, ◌∙◌, append-nil, scan_of, Naming, IsAlgebra, Expr, declared}
+use Rattle.ct_answer.proofs.Base.{IsOperator, IsPolynomial}
 use Rattle.ct_problem.specs.Input.{Input, Outcome}
-use Rattle.ct_problem.specs.Declarations.{declared}
 use Rattle.ct_problem.specs.Expressions.{expression}
-use Rattle.ct_problem.specs.WellFormed.{IsOperator, IsPolynomial}
 use Rattle.ct_problem.proofs.Taking.{Taken}
 use Rattle.ct_problem.proofs.TakenExpressions.{Takes-expression}
 use Rattle.ct_problem.proofs.WellFormedLines.{operator_of, polynomial_of}

@@ -1,32 +1,20 @@
 -- The value of what is printed of an operator, coefficient after coefficient. Main lemma `operator_value`.
 --     IsSmallOperatorEntry e     a term of an operator within the limits
-use Rattle.std.proofs.Common.{◌≡◌, ℕ, ◌+◌, ◌≤◌, ◌<◌, true, ℤ, nat_abs, List, [], ◌∷◌, ◌++◌, length, Ok, refl, sym, ap, ◌∙◌, subst, arith}
-use Rattle.std.proofs.lemmas.List.Sums.{sum_by-cons}
-use Rattle.ct_algebra.specs.Sums.{same_terms}
-use Rattle.ct_algebra.specs.Monomial.{Mono, monomials, total, unit}
-use Rattle.ct_algebra.specs.Names.{Name}
-use Rattle.ct_algebra.specs.Polynomial.{Polynomial, count, norm, norm_of}
-use Rattle.ct_algebra.specs.Substitution.{term}
-use Rattle.ct_algebra.specs.WholeNumbers.{int_group}
-use Rattle.ct_algebra.specs.Actions.{Action}
-use Rattle.ct_algebra.specs.Operators.{Operator, term_of, operator_of}
-use Rattle.ct_algebra.proofs.OperatorLawProofs as operator_laws
-use Rattle.ct_checked.specs.Checked.{Checked, ◌>>=◌}
-use Rattle.ct_checked.specs.Limits.{largest_degree, most_terms, largest_norm}
-use Rattle.ct_ore.specs.TermSums.{entries_count, entries_norm}
-use Rattle.ct_ore.specs.Measures.{term_count, term_norm}
-use Rattle.ct_expr.specs.ValueArithmetic.{Value, over_one}
-use Rattle.ct_expr.specs.Value.{value_of, fraction_of}
-use Rattle.ct_problem.specs.WellFormed.{Each}
+use Rattle.ct_answer.proofs.Base.{◌≡◌, ℕ, ◌+◌, ◌≤◌, ◌<◌, true, ℤ, nat_abs, List, [], ◌∷◌, ◌++◌, length, Ok, refl, sym, ap, ◌∙◌, subst, arith}
+use Rattle.ct_answer.proofs.Base.{sum_by-cons, same_terms, Mono, monomials, total, unit, Name, Polynomial, count, norm, norm_of, term, int_group}
+use Rattle.ct_answer.proofs.Base.{Action, Operator, term_of, operator_of, Checked, ◌>>=◌, largest_degree, most_terms, largest_norm, entries_count}
+use Rattle.ct_answer.proofs.Base.{entries_norm, term_count, term_norm, Value, over_one, value_of, fraction_of, Each, terms-term, term_count-one}
+use Rattle.ct_answer.proofs.Base.{term_norm-one}
 use Rattle.ct_answer.specs.declared.factors.Power.{Power}
 use Rattle.ct_answer.specs.Text.{names_in, symbols_in}
-use Rattle.ct_ore.proofs.OneTerm.{terms-term, term_count-one, term_norm-one}
 use Rattle.ct_answer.proofs.PowerMonomials.{all_of, all_of-powers, all_are}
 use Rattle.ct_answer.proofs.PowerValues.{IsSmall}
 use Rattle.ct_answer.proofs.TermValues.{before_symbols_value}
 use Rattle.ct_answer.proofs.SumValues.{TermHas, Adds, Makes, Makes-one, Makes-append, Adds-none, sum_value, zero_value}
 use Rattle.ct_answer.proofs.PolynomialValues.{IsSmallEntry, signed_has, Makes-polynomial, written_value}
-use Rattle.ct_answer.proofs.PrintedExpressions.{signed_expression, entry_expressions, before_symbols, product_expressions, operator_entry_expressions, operator_expressions, operator_expression, sum_expression}
+use Rattle.ct_answer.proofs.PrintedExpressions.{signed_expression, entry_expressions, before_symbols, product_expressions, operator_entry_expressions}
+use Rattle.ct_answer.proofs.PrintedExpressions.{operator_expressions, operator_expression, sum_expression}
+use Rattle.ct_algebra.proofs.OperatorLawProofs as operator_laws
 
 pub record IsSmallOperatorEntry (e : Mono × Polynomial) : Type 0 where
   pub some : 0 < length e.1.terms

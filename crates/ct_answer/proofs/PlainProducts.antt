@@ -1,29 +1,25 @@
 -- Products in which nothing passes a symbol: by powers of names before symbols, and by powers of symbols behind names.
 -- Main lemmas `times_names` and `times_symbols`: every pair of terms makes one term, so the product is within the limits where
 -- its value is.
-use Rattle.std.proofs.Common.{◌≡◌, ◌≢◌, ◌⊎◌, inl, inr, ℕ, ◌+◌, ◌*◌, ◌^◌, ◌≤◌, Bool, true, false, cond, eqb, ltb, le-ltb, ℤ, pos, nat_abs, List, [], ◌∷◌, length, None, Option, Ok, refl, sym, ap, ap₂, ◌∙◌, subst, arith, min}
-use native.Mathlib.Nat.{pow-zero}
-use Rattle.std.proofs.lemmas.List.Sums.{sum_by-cons}
-use Rattle.ct_algebra.specs.Sums.{none}
-use Rattle.ct_algebra.specs.Monomial.{Mono, exp, total, unit, ◌·◌, ·_assoc, ·_comm, ·-unit, exp-unit}
-use Rattle.ct_algebra.specs.Names.{Name, x0, x1, x2, x3, x4, x5, place, place_small, symbol, power, power_unit, power_symbol, by_symbols}
-use Rattle.ct_algebra.specs.Polynomial.{Polynomial, polys, times, count, norm, norm_of, degree, degree_of}
-use Rattle.ct_algebra.specs.Substitution.{term, number_is, one_is}
-use Rattle.ct_algebra.specs.Actions.{Action, Shift, Derive, Still, by_action}
-use Rattle.ct_algebra.specs.Operators.{Operator, term_of, product_of, symbol_before, multiple}
-use Rattle.ct_algebra.proofs.ProductRule.{multiple-term_of, product_of-term_of, product_of-polynomial, multiple-one_term, symbol_before-one, symbols_commute}
-use Rattle.ct_checked.specs.Checked.{verdict}
-use Rattle.ct_checked.specs.Limits.{largest_degree, most_terms, largest_norm}
-use Rattle.ct_checked.specs.declared.fault.Kind.{Kind}
+use Rattle.ct_answer.proofs.Base.{◌≡◌, ◌≢◌, ◌⊎◌, inl, inr, ℕ, ◌+◌, ◌*◌, ◌^◌, ◌≤◌, Bool, true, false, cond, eqb, ltb, le-ltb, ℤ, pos, nat_abs, List}
+use Rattle.ct_answer.proofs.Base.{[], ◌∷◌, length, None, Option, Ok, refl, sym, ap, ap₂, ◌∙◌, subst, arith, min, sum_by-cons, none, Mono, exp, total}
+use Rattle.ct_answer.proofs.Base.{unit, ◌·◌, ·_assoc, ·_comm, ·-unit, exp-unit, Name, x0, x1, x2, x3, x4, x5, place, place_small, symbol, power}
+use Rattle.ct_answer.proofs.Base.{power_unit, power_symbol, by_symbols, Polynomial, polys, times, count, norm, norm_of, degree, degree_of, term}
+use Rattle.ct_answer.proofs.Base.{number_is, one_is, Action, Shift, Derive, Still, by_action, Operator, term_of, symbol_before, multiple, verdict}
+use Rattle.ct_answer.proofs.Base.{largest_degree, most_terms, largest_norm, Kind, coefficient_degree, order_of, product_count, product_norm}
+use Rattle.ct_answer.proofs.Base.{product_overflow, checked_product, terms-term, some_term, coefficient_terms-one, coefficient_degree-one}
+use Rattle.ct_answer.proofs.Base.{order_of-one, total_unit}
+use Rattle.ct_algebra.specs.Operators.{product_of}
+use Rattle.ct_algebra.proofs.ProductRule.{multiple-term_of, product_of-term_of, product_of-polynomial, multiple-one_term, symbol_before-one}
+use Rattle.ct_algebra.proofs.ProductRule.{symbols_commute}
 use Rattle.ct_ore.specs.declared.coefficient_term.CoefficientTerm.{CoefficientTerm}
 use Rattle.ct_ore.specs.CoefficientTerms.{row_of, coefficient_terms}
-use Rattle.ct_ore.specs.Measures.{coefficient_degree, order_of, product_count, product_norm, product_overflow, checked_product}
 use Rattle.ct_ore.specs.MeasureLaws.{FitsProduct}
 use Rattle.ct_ore.specs.PairMeasures.{pair_measure, measure_of_row, measure_of_pairs}
 use Rattle.ct_ore.specs.PairWeights.{over_names, pair_count, pair_weight, derivation_weight, ways_below}
-use Rattle.ct_ore.proofs.OneTerm.{terms-term, some_term, coefficient_terms-one, coefficient_degree-one, order_of-one, total_unit}
 use Rattle.ct_ore.proofs.PairWeightLaws.{derivation_weight-min, power_of_one}
 use Rattle.ct_ore.proofs.ProductMeasures.{count-pairs, norm-pairs}
+use native.Mathlib.Nat.{pow-zero}
 
 -- ---- pairs
 

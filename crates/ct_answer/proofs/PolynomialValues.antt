@@ -1,32 +1,21 @@
 -- The value of what is printed of a polynomial, term after term. Main lemmas `Makes-polynomial` and `polynomial_written`.
 --     IsSmallEntry e       a term of a polynomial within the limits
-use Rattle.std.proofs.Common.{◌≡◌, ℕ, zero, suc, ◌+◌, ◌≤◌, ◌<◌, true, false, cond, T, ℤ, pos, negsuc, nat_abs, List, [], ◌∷◌, ◌++◌, length, Ok, refl, sym, ap, ◌∙◌, subst, arith}
-use Rattle.std.proofs.lemmas.List.{append-nil}
-use Rattle.std.proofs.lemmas.List.Sums.{sum_by-cons}
+use Rattle.ct_answer.proofs.Base.{◌≡◌, ℕ, zero, suc, ◌+◌, ◌≤◌, ◌<◌, true, false, cond, T, ℤ, pos, negsuc, nat_abs, List, [], ◌∷◌, ◌++◌, length, Ok}
+use Rattle.ct_answer.proofs.Base.{refl, sym, ap, ◌∙◌, subst, arith, append-nil, sum_by-cons, Mono, total, unit, Name, Polynomial, polys, plus}
+use Rattle.ct_answer.proofs.Base.{poly_of, count, norm, norm_of, term, int_is_zero, Action, Operator, operator_group, sum_of_operators, negative}
+use Rattle.ct_answer.proofs.Base.{term_of, negatives_are, term_of-sum, term_of-zero, term_of_hom, largest_degree, most_terms, largest_norm, over_one}
+use Rattle.ct_answer.proofs.Base.{fraction_of, Each, terms-term, total_unit, term_count-one, term_norm-one}
 use Rattle.ct_algebra.specs.Group.{hom_neg}
-use Rattle.ct_algebra.specs.Monomial.{Mono, total, unit}
-use Rattle.ct_algebra.specs.Names.{Name}
-use Rattle.ct_algebra.specs.Polynomial.{Polynomial, polys, plus, poly_of, count, norm, norm_of}
-use Rattle.ct_algebra.specs.Substitution.{term}
-use Rattle.ct_algebra.specs.WholeNumbers.{int_is_zero}
-use Rattle.ct_algebra.specs.Actions.{Action}
-use Rattle.ct_algebra.specs.Operators.{Operator, operator_group, sum_of_operators, negative, term_of}
-use Rattle.ct_algebra.proofs.OperatorTerms.{negatives_are, term_of-sum, term_of-zero, term_of_hom}
-use Rattle.ct_algebra.proofs.PolynomialLawProofs as polynomial_laws
-use Rattle.ct_checked.specs.Limits.{largest_degree, most_terms, largest_norm}
 use Rattle.ct_poly.proofs.DivisionSteps.{term-neg}
 use Rattle.ct_poly.proofs.TermLists.{rebuilt}
-use Rattle.ct_expr.specs.ValueArithmetic.{over_one}
-use Rattle.ct_expr.specs.Value.{fraction_of}
-use Rattle.ct_problem.specs.WellFormed.{Each}
 use Rattle.ct_answer.specs.declared.factors.Power.{Power}
 use Rattle.ct_answer.specs.Text.{names_in}
-use Rattle.ct_ore.proofs.OneTerm.{terms-term, total_unit, term_count-one, term_norm-one}
 use Rattle.ct_answer.proofs.PowerMonomials.{all_of, all_of-powers, all_are}
 use Rattle.ct_answer.proofs.PowerValues.{small_term}
 use Rattle.ct_answer.proofs.TermValues.{term_value}
 use Rattle.ct_answer.proofs.SumValues.{TermHas, Adds, Makes, Makes-one, Makes-append, Adds-none, sum_value, zero_value}
 use Rattle.ct_answer.proofs.PrintedExpressions.{signed_expression, term_expression, entry_expression, entry_expressions, sum_expression}
+use Rattle.ct_algebra.proofs.PolynomialLawProofs as polynomial_laws
 
 -- ---- terms of polynomials
 

@@ -1,12 +1,9 @@
 -- Powers as monomials. Main lemma `all_of-powers`: the powers in a monomial make it up.
 --     raised n k           the monomial n, multiplied by itself so often
 --     monomial_of p        the power p as a monomial, of names or of symbols;  all_of ps  the product of powers
-use Rattle.std.proofs.Common.{◌≡◌, ◌≢◌, ℕ, zero, suc, ◌+◌, ◌*◌, ◌≤◌, ◌<◌, Bool, true, false, cond, eqb, List, [], ◌∷◌, ◌++◌, refl, sym, ap, ap₂, ◌∙◌, arith, eqb-true, eq-eqb, ltb, le-ltb, lt-ltb, ltb-true, ltb-false}
-use Rattle.std.proofs.lemmas.Bool.{false≢true}
-use Rattle.ct_algebra.specs.Monomial.{Mono, exp, unit, ◌·◌, ·_assoc, ·_comm, ·-unit, exp-unit, exp-·, same_mono}
-use Rattle.ct_algebra.specs.Names.{symbol, name_with, exp-symbol}
-use Rattle.ct_mono.proofs.ExponentLaws.{place-name_with}
-use Rattle.ct_problem.specs.WellFormed.{Each}
+use Rattle.ct_answer.proofs.Base.{◌≡◌, ◌≢◌, ℕ, zero, suc, ◌+◌, ◌*◌, ◌≤◌, ◌<◌, Bool, true, false, cond, eqb, List, [], ◌∷◌, ◌++◌, refl, sym, ap, ap₂}
+use Rattle.ct_answer.proofs.Base.{◌∙◌, arith, eqb-true, eq-eqb, ltb, le-ltb, lt-ltb, ltb-true, ltb-false, false≢true, Mono, exp, unit, ◌·◌, ·_assoc}
+use Rattle.ct_answer.proofs.Base.{·_comm, ·-unit, exp-unit, exp-·, same_mono, symbol, name_with, exp-symbol, place-name_with, Each}
 use Rattle.ct_answer.specs.declared.factors.Power.{Power}
 use Rattle.ct_answer.specs.Text.{power_at, powers_in}
 use Rattle.ct_answer.proofs.SpelledPowers.{Each-append}

@@ -1,28 +1,18 @@
 -- The values of printed powers and of products of them. Main lemmas `names_value` and `symbols_value`.
 --     IsSmall c            a polynomial within the limits that is not zero
-use Rattle.std.proofs.Common.{◌≡◌, ◌≢◌, ℕ, zero, suc, ◌+◌, ◌≤◌, ◌==◌, Bool, true, false, cond, T, ℤ, pos, nat_abs, ◌*ℤ◌, List, [], ◌∷◌, ◌++◌, length, Some, Ok, refl, sym, ap, ◌∙◌, subst, arith, eqb-true}
+use Rattle.ct_answer.proofs.Base.{◌≡◌, ◌≢◌, ℕ, zero, suc, ◌+◌, ◌≤◌, ◌==◌, Bool, true, false, cond, T, ℤ, pos, nat_abs, ◌*ℤ◌, List, [], ◌∷◌, ◌++◌}
+use Rattle.ct_answer.proofs.Base.{length, Some, Ok, refl, sym, ap, ◌∙◌, subst, arith, eqb-true, Mono, total, total-·, unit, ◌·◌, ·_assoc, ·-unit}
+use Rattle.ct_answer.proofs.Base.{Name, symbol, name_with, Polynomial, polys, times, times_is, count, norm, norm_of, degree, degree_of, term}
+use Rattle.ct_answer.proofs.Base.{number_is, name_is, one_is, term-*, int_is_zero, Action, term_of, Checked, ◌>>=◌, largest_degree, most_terms}
+use Rattle.ct_answer.proofs.Base.{largest_norm, checked_product, Value, over_one, checked_times, fraction_of, fractions, product_from, power_from}
+use Rattle.ct_answer.proofs.Base.{one_value, times_over_one, fraction_of-Name, fraction_of-Symbol, fraction_of-Power, Each, terms-term, some_term}
+use Rattle.ct_answer.proofs.Base.{total_unit}
 use Rattle.std.proofs.lemmas.Int.{ints}
-use Rattle.ct_algebra.specs.Monomial.{Mono, total, total-·, unit, ◌·◌, ·_assoc, ·-unit}
-use Rattle.ct_algebra.specs.Names.{Name, symbol, name_with}
-use Rattle.ct_algebra.specs.Polynomial.{Polynomial, polys, times, times_is, count, norm, norm_of, degree, degree_of}
-use Rattle.ct_algebra.specs.Substitution.{term, number_is, name_is, one_is, term-*}
-use Rattle.ct_algebra.specs.WholeNumbers.{int_is_zero}
-use Rattle.ct_algebra.specs.Actions.{Action}
-use Rattle.ct_algebra.specs.Operators.{term_of}
-use Rattle.ct_checked.specs.Checked.{Checked, ◌>>=◌}
-use Rattle.ct_checked.specs.Limits.{largest_degree, most_terms, largest_norm}
-use Rattle.ct_ore.specs.Measures.{checked_product}
-use Rattle.ct_expr.specs.declared.expr.Expr.TheVariants as e
-use Rattle.ct_expr.specs.ValueArithmetic.{Value, over_one, checked_times}
-use Rattle.ct_expr.specs.Value.{fraction_of, fractions, product_from, power_from, one_value}
-use Rattle.ct_expr.proofs.OverOne.{times_over_one}
-use Rattle.ct_expr.proofs.Values.{fraction_of-Name, fraction_of-Symbol, fraction_of-Power}
-use Rattle.ct_problem.specs.WellFormed.{Each}
 use Rattle.ct_answer.specs.declared.factors.Power.{Power}
 use Rattle.ct_answer.proofs.PowerMonomials.{raised, raised-one, monomial_of, all_of, unit_before}
 use Rattle.ct_answer.proofs.PrintedExpressions.{power_expression, power_expressions}
-use Rattle.ct_ore.proofs.OneTerm.{terms-term, some_term, total_unit}
 use Rattle.ct_answer.proofs.PlainProducts.{times_names, times_symbols}
+use Rattle.ct_expr.specs.declared.expr.Expr.TheVariants as e
 
 -- ---- polynomials within the limits
 

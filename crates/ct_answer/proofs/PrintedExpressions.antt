@@ -3,17 +3,11 @@
 --     term_expression n ps           a number and powers; 1 is left out before a power
 --     sum_expression ts              the sum of terms with their signs; zero where there is none
 --     polynomial_expression, operator_expression    as `specs/Text.antt` writes them
-use Rattle.std.proofs.Common.{ℕ, ◌==◌, false, ℤ, pos, List, [], ◌∷◌, ◌++◌, map}
-use Rattle.std.specs.List.{flat_map}
-use Rattle.std.specs.Prelude.{unsigned_abs, if◌then◌else◌}
-use Rattle.ct_algebra.specs.Monomial.{Mono}
-use Rattle.ct_algebra.specs.Polynomial.{Polynomial}
-use Rattle.ct_algebra.specs.Operators.{Operator}
-use Rattle.ct_expr.specs.declared.expr.Expr.{Expr}
-use Rattle.ct_expr.specs.declared.expr.Expr.TheVariants as e
-use Rattle.ct_problem.specs.Grammar.{Term, product_of, sum_of}
+use Rattle.ct_answer.proofs.Base.{ℕ, ◌==◌, false, ℤ, pos, List, [], ◌∷◌, ◌++◌, map, flat_map, unsigned_abs, if◌then◌else◌, Mono, Polynomial, Operator}
+use Rattle.ct_answer.proofs.Base.{Expr, Term, product_of, sum_of}
 use Rattle.ct_answer.specs.declared.factors.Power.{Power}
 use Rattle.ct_answer.specs.Text.{names_in, symbols_in, is_negative}
+use Rattle.ct_expr.specs.declared.expr.Expr.TheVariants as e
 
 -- ---- terms
 

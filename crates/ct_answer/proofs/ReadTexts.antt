@@ -3,23 +3,22 @@
 --     Writes begin end text T     some lexemes of the set T are read from the text, whatever stands behind; where `end`, no letter,
 --                                 digit or `_` may stand there, and where `begin`, none stands at the front
 -- Main lemma `Writes-joined`: pieces one after the other.
-use Rattle.std.proofs.Common.{◌≡◌, ℕ, ◌+◌, ◌-◌, ◌*◌, ◌^◌, ◌<◌, ◌≤◌, ◌==◌, fold, Bool, true, false, ◌||◌, None, List, [], ◌∷◌, ◌++◌, length, take, drop, IsTrue, refl, sym, ap, ap₂, ◌∙◌, subst, arith, append_assoc, length-append}
-use Rattle.std.specs.List.{list_all}
-use Rattle.std.specs.Fmt as fmt
-use Rattle.std.proofs.lemmas.List.{append-nil, drop-drop, take-append-le, drop-append-le, take_all, drop_all}
+use Rattle.ct_answer.proofs.Base.{◌≡◌, ℕ, ◌+◌, ◌-◌, ◌*◌, ◌^◌, ◌<◌, ◌≤◌, ◌==◌, fold, Bool, true, false, ◌||◌, None, List, [], ◌∷◌, ◌++◌, length, take}
+use Rattle.ct_answer.proofs.Base.{drop, IsTrue, refl, sym, ap, ap₂, ◌∙◌, subst, arith, append_assoc, length-append, list_all, append-nil, drop-drop}
+use Rattle.ct_answer.proofs.Base.{take-append-le, drop-append-le, take_all, drop_all, is_digit, is_word_byte, is_letter, Scanned, Gap, Lexeme}
+use Rattle.ct_answer.proofs.Base.{piece_of, scanned, scan_of, is_line_end, with_piece, Stops, IsWord, slice, Texts, nothing, one, ◌▸◌, each, lexemes}
+use Rattle.ct_answer.proofs.Base.{lexeme_of, decimal}
 use Rattle.std.proofs.lemmas.Fmt.{decimal_is_IsNumeral_wide}
 use Rattle.std.specs.Str.Parse.{AllDigits, digits_value_after}
 use Rattle.std.specs.Char.{digit_value}
 use Rattle.std.proofs.lemmas.Str.Parse.{digit_from_value}
 use Rattle.std.proofs.lemmas.Str.{digit_value_digit}
 use Rattle.ct_token.specs.declared.token.Symbol.{Symbol}
-use Rattle.ct_token.specs.declared.token.Symbol.TheVariants as symbol
-use Rattle.ct_token.specs.Lexical.{is_digit, is_word_byte, is_letter, Scanned, Gap, Lexeme, piece_of, scanned, scan_of, is_line_end, with_piece}
-use Rattle.ct_token.specs.Lexing.{Stops, IsWord, slice}
 use Rattle.ct_token.proofs.Scanning.{scanned-piece}
-use Rattle.ct_problem.specs.Lexemes.{Texts, nothing, one, ◌▸◌, each, lexemes, lexeme_of, decimal}
-use Rattle.ct_problem.specs.Lexemes as lexeme
 use Rattle.ct_answer.proofs.TokensAhead.{IsPlainSign, word_ahead, number_ahead, sign_ahead, blank_ahead, is_digit-within}
+use Rattle.std.specs.Fmt as fmt
+use Rattle.ct_token.specs.declared.token.Symbol.TheVariants as symbol
+use Rattle.ct_problem.specs.Lexemes as lexeme
 
 -- ---- texts that are read
 

@@ -1,15 +1,6 @@
 -- What is printed is read back. Main lemmas `polynomials_are_read` and `operators_are_read`, which the laws cite.
-use Rattle.std.proofs.Common.{◌≡◌, Ok, List, true, false, refl, ap, ◌∙◌}
-use Rattle.ct_algebra.specs.Monomial.{unit}
-use Rattle.ct_algebra.specs.Names.{Name}
-use Rattle.ct_algebra.specs.Polynomial.{Polynomial, count, norm}
-use Rattle.ct_algebra.specs.Actions.{Action}
-use Rattle.ct_algebra.specs.Operators.{Operator, polynomial_at, term_of}
-use Rattle.ct_algebra.proofs.OperatorTerms.{at-term_of, pick-same}
-use Rattle.ct_checked.specs.Checked.{Checked, ◌>>=◌}
-use Rattle.ct_ore.specs.Naming.{Naming, actions_of}
-use Rattle.ct_expr.specs.ValueArithmetic.{Value}
-use Rattle.ct_expr.specs.Value.{value_of, checked_polynomial}
+use Rattle.ct_answer.proofs.Base.{◌≡◌, Ok, List, true, false, refl, ap, ◌∙◌, unit, Name, Polynomial, count, norm, Action, Operator, polynomial_at}
+use Rattle.ct_answer.proofs.Base.{term_of, at-term_of, pick-same, Checked, ◌>>=◌, Naming, actions_of, Value, value_of, checked_polynomial}
 use Rattle.ct_answer.specs.Text.{polynomial_text, operator_text}
 use Rattle.ct_answer.specs.ReadBack.{PolynomialFits, PrintedPolynomialsAreRead, PrintedOperatorsAreRead}
 use Rattle.ct_answer.proofs.PrintedExpressions.{polynomial_expression, operator_expression}

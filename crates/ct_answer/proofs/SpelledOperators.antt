@@ -1,24 +1,20 @@
 -- The texts of operators are spelled by the grammar. Main lemma `Writes-operator`.
 --     OperatorEntryFits    the coefficient is not zero, and it and its symbols are as the grammar wants them
-use Rattle.std.proofs.Common.{◌≡◌, ℕ, suc, ◌<◌, true, false, ℤ, List, [], ◌∷◌, ◌++◌, length, refl, arith, append_assoc}
-use Rattle.std.specs.List.{flat_map}
-use Rattle.ct_algebra.specs.Monomial.{Mono}
-use Rattle.ct_algebra.specs.Polynomial.{Polynomial}
-use Rattle.ct_algebra.specs.Operators.{Operator}
-use Rattle.ct_ore.specs.Naming.{Naming, IsAlgebra}
-use Rattle.ct_expr.specs.declared.expr.Expr.{Expr}
-use Rattle.ct_problem.specs.Declarations.{declared}
-use Rattle.ct_problem.specs.Lexemes.{Lexeme, Texts, one, ◌▸◌, each}
-use Rattle.ct_problem.specs.Lexemes as lexeme
-use Rattle.ct_problem.specs.Grammar.{Term, product_of, IsSum, IsFactor, IsAtom, IsNested}
-use Rattle.ct_problem.proofs.JoinedTexts.{joined_to_right, to_nothing}
-use Rattle.ct_problem.specs.WellFormed.{Each}
+use Rattle.ct_answer.proofs.Base.{◌≡◌, ℕ, suc, ◌<◌, true, false, ℤ, List, [], ◌∷◌, ◌++◌, length, refl, arith, append_assoc, flat_map, Mono}
+use Rattle.ct_answer.proofs.Base.{Polynomial, Operator, Naming, IsAlgebra, Expr, declared, Texts, one, ◌▸◌, each, Term, product_of, IsSum, IsFactor}
+use Rattle.ct_answer.proofs.Base.{IsAtom, IsNested, joined_to_right, to_nothing, Each}
+use Rattle.ct_problem.specs.Lexemes.{Lexeme}
 use Rattle.ct_answer.specs.declared.factors.Power.{Power}
-use Rattle.ct_answer.specs.Text.{sign_text, entries_text, product_text, parenthesized, operator_entry_text, operator_entries_text, operator_text, names_in, symbols_in, later_powers}
+use Rattle.ct_answer.specs.Text.{sign_text, entries_text, product_text, parenthesized, operator_entry_text, operator_entries_text, operator_text}
+use Rattle.ct_answer.specs.Text.{names_in, symbols_in, later_powers}
 use Rattle.ct_answer.proofs.ReadTexts.{Writes, Writes-joined, Writes-as, Writes-text, Writes-before, Writes-nothing, Writes-sign}
-use Rattle.ct_answer.proofs.PrintedExpressions.{power_expressions, sum_expression, entry_expressions, before_symbols, product_expressions, operator_entry_expressions, operator_expressions, operator_expression}
-use Rattle.ct_answer.proofs.SpelledPowers.{PowerFits, Each-append, open_parenthesis_is_plain, close_parenthesis_is_plain, MoreFactor, ATerm, Writes-later, term_from}
-use Rattle.ct_answer.proofs.SpelledSums.{EntryFits, MoreTerm, First, Sum, each-append, sum_is, zero_is, Writes-later_sign, Writes-first_sign, Writes-first_term, Writes-more_term, Writes-first_entries, Writes-later_entries}
+use Rattle.ct_answer.proofs.PrintedExpressions.{power_expressions, sum_expression, entry_expressions, before_symbols, product_expressions}
+use Rattle.ct_answer.proofs.PrintedExpressions.{operator_entry_expressions, operator_expressions, operator_expression}
+use Rattle.ct_answer.proofs.SpelledPowers.{PowerFits, Each-append, open_parenthesis_is_plain, close_parenthesis_is_plain, MoreFactor, ATerm}
+use Rattle.ct_answer.proofs.SpelledPowers.{Writes-later, term_from}
+use Rattle.ct_answer.proofs.SpelledSums.{EntryFits, MoreTerm, First, Sum, each-append, sum_is, zero_is, Writes-later_sign, Writes-first_sign}
+use Rattle.ct_answer.proofs.SpelledSums.{Writes-first_term, Writes-more_term, Writes-first_entries, Writes-later_entries}
+use Rattle.ct_problem.specs.Lexemes as lexeme
 
 pub record OperatorEntryFits (names : List Naming) (e : Mono × Polynomial) : Type 0 where
   pub some : 0 < length e.1.terms

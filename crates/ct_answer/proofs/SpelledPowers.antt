@@ -1,27 +1,22 @@
 -- The texts of powers and terms are spelled by the grammar. Main lemma `Writes-term`.
 --     PowerFits names operators p     the name is of the list, its symbol is one where it is written, and the exponent is within the limit
-use Rattle.std.proofs.Common.{◌≡◌, ◌≢◌, ℕ, ◌<◌, ◌≤◌, ◌==◌, Bool, true, false, cond, ℤ, pos, List, [], ◌∷◌, ◌++◌, length, IsTrue, refl, sym, ap, arith, append_assoc, codes}
-use Rattle.std.specs.Prelude.{unsigned_abs}
-use Rattle.std.specs.Fmt as fmt
-use Rattle.std.proofs.lemmas.List.{append-nil}
-use Rattle.ct_token.specs.Lexing as lexing
-use Rattle.ct_algebra.specs.Actions as actions
-use Rattle.ct_checked.specs.Limits.{largest_degree, largest_norm}
-use Rattle.ct_ore.specs.Naming.{Naming, IsAlgebra}
-use Rattle.ct_expr.specs.declared.expr.Expr.{Expr}
-use Rattle.ct_expr.specs.declared.expr.Expr.TheVariants as e
-use Rattle.ct_problem.specs.Declarations.{declared}
-use Rattle.ct_problem.specs.Lexemes.{Texts, nothing, one, number, ◌▸◌, each}
-use Rattle.ct_problem.specs.Lexemes as lexeme
-use Rattle.ct_problem.specs.Grammar.{product_of, IsAtom, IsFactor, IsMoreFactor, IsTerm, symbol, IsActing}
-use Rattle.ct_problem.proofs.JoinedTexts.{to_nothing}
-use Rattle.ct_problem.specs.WellFormed.{Each}
+use Rattle.ct_answer.proofs.Base.{◌≡◌, ◌≢◌, ℕ, ◌<◌, ◌≤◌, ◌==◌, Bool, true, false, cond, ℤ, pos, List, [], ◌∷◌, ◌++◌, length, IsTrue, refl, sym, ap}
+use Rattle.ct_answer.proofs.Base.{arith, append_assoc, codes, unsigned_abs, append-nil, largest_degree, largest_norm, Naming, IsAlgebra, Expr}
+use Rattle.ct_answer.proofs.Base.{declared, Texts, nothing, one, number, ◌▸◌, each, product_of, IsAtom, IsFactor, IsMoreFactor, IsTerm, IsActing}
+use Rattle.ct_answer.proofs.Base.{to_nothing, Each}
+use Rattle.ct_problem.specs.Grammar.{symbol}
 use Rattle.ct_answer.specs.declared.factors.Power.{Power}
 use Rattle.ct_answer.specs.Text.{naming_at, base_text, symbol_text, name_text, letter, power_text, later_powers, powers_text, term_text}
 use Rattle.ct_answer.proofs.TokensAhead.{IsPlainSign}
-use Rattle.ct_answer.proofs.ReadTexts.{Writes, Writes-joined, Writes-as, Writes-text, Writes-before, Writes-nothing, Writes-sign, Writes-word, Writes-number}
+use Rattle.ct_answer.proofs.ReadTexts.{Writes, Writes-joined, Writes-as, Writes-text, Writes-before, Writes-nothing, Writes-sign, Writes-word}
+use Rattle.ct_answer.proofs.ReadTexts.{Writes-number}
 use Rattle.ct_answer.proofs.NamePlaces.{is_word, is_variable, is_acting}
 use Rattle.ct_answer.proofs.PrintedExpressions.{base_expression, power_expression, power_expressions, term_expression}
+use Rattle.std.specs.Fmt as fmt
+use Rattle.ct_token.specs.Lexing as lexing
+use Rattle.ct_algebra.specs.Actions as actions
+use Rattle.ct_expr.specs.declared.expr.Expr.TheVariants as e
+use Rattle.ct_problem.specs.Lexemes as lexeme
 
 pub record PowerFits (names : List Naming) (operators : Bool) (p : Power) : Type 0 where
   pub named : p.name < length names

@@ -1,28 +1,21 @@
 -- The texts of polynomials are spelled by the grammar. Main lemma `Writes-polynomial`.
 --     EntryFits     numbers, exponents and names are as the grammar wants them
 --     Sum ts        the lexemes of the sum of these terms, the first of which may have a `-`
-use Rattle.std.proofs.Common.{◌≡◌, ℕ, suc, ◌≤◌, ◌==◌, Bool, true, false, cond, ℤ, pos, List, [], ◌∷◌, ◌++◌, length, refl, arith, codes, ne_eqb}
-use Rattle.std.specs.List.{flat_map}
-use Rattle.std.specs.Prelude.{unsigned_abs}
-use Rattle.std.specs.Fmt as fmt
-use Rattle.ct_algebra.specs.Monomial.{Mono}
-use Rattle.ct_algebra.specs.Polynomial.{Polynomial}
-use Rattle.ct_checked.specs.Limits.{largest_norm}
-use Rattle.ct_ore.specs.Naming.{Naming, IsAlgebra}
-use Rattle.ct_expr.specs.declared.expr.Expr.{Expr}
-use Rattle.ct_expr.specs.declared.expr.Expr.TheVariants as e
-use Rattle.ct_problem.specs.Declarations.{declared}
-use Rattle.ct_problem.specs.Lexemes.{Lexeme, Texts, nothing, one, optional, number, ◌▸◌, each}
-use Rattle.ct_problem.specs.Lexemes as lexeme
+use Rattle.ct_answer.proofs.Base.{◌≡◌, ℕ, suc, ◌≤◌, ◌==◌, Bool, true, false, cond, ℤ, pos, List, [], ◌∷◌, ◌++◌, length, refl, arith, codes, ne_eqb}
+use Rattle.ct_answer.proofs.Base.{flat_map, unsigned_abs, Mono, Polynomial, largest_norm, Naming, IsAlgebra, Expr, declared, Texts, nothing, one}
+use Rattle.ct_answer.proofs.Base.{optional, number, ◌▸◌, each, Term, product_of, IsMoreTerm, IsSum, joined_to_right, joined_nothing, nothing_joined}
+use Rattle.ct_answer.proofs.Base.{to_nothing, Each}
+use Rattle.ct_problem.specs.Lexemes.{Lexeme}
 use Rattle.ct_problem.specs.Signs.{plus, minus}
-use Rattle.ct_problem.specs.Grammar.{Term, product_of, IsMoreTerm, IsSum}
-use Rattle.ct_problem.proofs.JoinedTexts.{joined_to_right, joined_nothing, nothing_joined, to_nothing}
-use Rattle.ct_problem.specs.WellFormed.{Each}
 use Rattle.ct_answer.specs.declared.factors.Power.{Power}
 use Rattle.ct_answer.specs.Text.{sign_text, is_negative, signed_term, entry_text, entries_text, polynomial_text, names_in, term_text}
 use Rattle.ct_answer.proofs.ReadTexts.{Writes, Writes-joined, Writes-as, Writes-behind, Writes-before, Writes-nothing, Writes-sign, Writes-blank}
-use Rattle.ct_answer.proofs.PrintedExpressions.{term_expression, signed_expression, sum_expression, entry_expression, entry_expressions, polynomial_expression}
+use Rattle.ct_answer.proofs.PrintedExpressions.{term_expression, signed_expression, sum_expression, entry_expression, entry_expressions}
+use Rattle.ct_answer.proofs.PrintedExpressions.{polynomial_expression}
 use Rattle.ct_answer.proofs.SpelledPowers.{PowerFits, plus_is_plain, minus_is_plain, ATerm, Writes-term, Writes-number_alone}
+use Rattle.std.specs.Fmt as fmt
+use Rattle.ct_expr.specs.declared.expr.Expr.TheVariants as e
+use Rattle.ct_problem.specs.Lexemes as lexeme
 
 -- ---- lists of lists
 

@@ -1,10 +1,5 @@
 -- What is printed is spelled by the grammar. Main lemmas `polynomial_is_spelled` and `operator_is_spelled`.
-use Rattle.std.proofs.Common.{true, false, List}
-use Rattle.ct_algebra.specs.Polynomial.{Polynomial}
-use Rattle.ct_algebra.specs.Operators.{Operator}
-use Rattle.ct_ore.specs.Naming.{Naming, IsAlgebra}
-use Rattle.ct_problem.specs.Declarations.{declared}
-use Rattle.ct_problem.specs.Grammar.{IsNested, IsExpression}
+use Rattle.ct_answer.proofs.Base.{true, false, List, Polynomial, Operator, Naming, IsAlgebra, declared, IsNested, IsExpression}
 use Rattle.ct_answer.specs.Text.{polynomial_text, operator_text}
 use Rattle.ct_answer.specs.ReadBack.{PolynomialFits, OperatorFits, IsSpelled}
 use Rattle.ct_answer.proofs.ReadTexts.{Writes-whole}

@@ -3,32 +3,19 @@
 --     Adds ts w k s          behind any sum that leaves room, these terms add w
 --     Begins ts w k s        a sum of these terms has the value w, and goes on from it
 -- Main lemmas `Adds-append`, `Begins-append` and `sum_value`.
-use Rattle.std.proofs.Common.{◌≡◌, ℕ, ◌+◌, ◌≤◌, Bool, true, false, pos, List, [], ◌∷◌, ◌++◌, map, None, Some, Option, Ok, Err, refl, sym, ap, ap₂, ◌∙◌, arith}
-use Rattle.std.proofs.lemmas.List.{append-nil}
-use Rattle.ct_algebra.specs.Names.{Name}
-use Rattle.ct_algebra.specs.Actions.{Action}
+use Rattle.ct_answer.proofs.Base.{◌≡◌, ℕ, ◌+◌, ◌≤◌, Bool, true, false, pos, List, [], ◌∷◌, ◌++◌, map, None, Some, Option, Ok, Err, refl, sym, ap, ap₂}
+use Rattle.ct_answer.proofs.Base.{◌∙◌, arith, append-nil, Name, Action, unit, Polynomial, polys, number_is, term-sum, int_group, Operator}
+use Rattle.ct_answer.proofs.Base.{operator_group, term_of, no_operator, sum_of_operators, negative, term_of-zero, Checked, ◌>>=◌, verdict, most_terms}
+use Rattle.ct_answer.proofs.Base.{largest_norm, Kind, term_count, term_norm, checked_sum, checked_difference, difference_of_operators, Term, summand}
+use Rattle.ct_answer.proofs.Base.{Value, over_one, fraction_of, signed, Signed, sum_from, joined, negated_over_one, plus_over_one, minus_over_one}
+use Rattle.ct_answer.proofs.Base.{fraction_of-Whole, fraction_of-Sum, fraction_of_term-out}
 use Rattle.ct_algebra.specs.Group.{zero_add, hom_zero}
-use Rattle.ct_algebra.specs.Monomial.{unit}
-use Rattle.ct_algebra.specs.Polynomial.{Polynomial, polys}
-use Rattle.ct_algebra.specs.Substitution.{number_is, term-sum}
-use Rattle.ct_algebra.specs.WholeNumbers.{int_group}
-use Rattle.ct_algebra.specs.Operators.{Operator, operator_group, term_of, no_operator, sum_of_operators, negative}
 use Rattle.ct_algebra.proofs.OperatorLawProofs.{group}
-use Rattle.ct_algebra.proofs.OperatorTerms.{term_of-zero}
-use Rattle.ct_checked.specs.Checked.{Checked, ◌>>=◌, verdict}
-use Rattle.ct_checked.specs.Limits.{most_terms, largest_norm}
-use Rattle.ct_checked.specs.declared.fault.Kind.{Kind}
-use Rattle.ct_ore.specs.Measures.{term_count, term_norm, checked_sum, checked_difference, difference_of_operators}
 use Rattle.ct_ore.proofs.OperatorSums.{sum_allowed, sum_within}
 use Rattle.ct_ore.proofs.WrittenOperators.{terms-no_operator}
-use Rattle.ct_expr.specs.declared.expr.Expr.TheVariants as e
-use Rattle.ct_problem.specs.Grammar.{Term, summand}
-use Rattle.ct_problem.specs.Grammar as grammar
-use Rattle.ct_expr.specs.ValueArithmetic.{Value, over_one}
-use Rattle.ct_expr.specs.Value.{fraction_of, signed, Signed, sum_from, joined}
-use Rattle.ct_expr.proofs.OverOne.{negated_over_one, plus_over_one, minus_over_one}
-use Rattle.ct_expr.proofs.Values.{fraction_of-Whole, fraction_of-Sum, fraction_of_term-out}
 use Rattle.ct_answer.proofs.PrintedExpressions.{sum_expression}
+use Rattle.ct_expr.specs.declared.expr.Expr.TheVariants as e
+use Rattle.ct_problem.specs.Grammar as grammar
 
 -- ---- sums of operators
 

@@ -1,30 +1,17 @@
 -- The values of printed terms. Main lemmas `term_value` and `before_symbols_value`: a number, powers of names and then powers
 -- of symbols make one term, and so does a polynomial before powers of symbols.
-use Rattle.std.proofs.Common.{◌≡◌, ℕ, ◌≤◌, ◌<◌, ◌==◌, Bool, true, false, cond, pos, List, [], ◌∷◌, ◌++◌, None, Some, Ok, Err, refl, sym, ap, ◌∙◌, arith, eqb-true}
-use Rattle.ct_algebra.specs.Monomial.{Mono, total, total-·, unit}
-use Rattle.ct_algebra.specs.Names.{Name}
-use Rattle.ct_algebra.specs.Polynomial.{Polynomial, polys}
-use Rattle.ct_algebra.specs.Substitution.{term, number_is}
-use Rattle.ct_algebra.specs.Actions.{Action}
-use Rattle.ct_algebra.specs.Operators.{Operator, term_of}
-use Rattle.ct_checked.specs.Checked.{Checked, ◌>>=◌}
-use Rattle.ct_checked.specs.Limits.{largest_degree, largest_norm}
+use Rattle.ct_answer.proofs.Base.{◌≡◌, ℕ, ◌≤◌, ◌<◌, ◌==◌, Bool, true, false, cond, pos, List, [], ◌∷◌, ◌++◌, None, Some, Ok, Err, refl, sym, ap, ◌∙◌}
+use Rattle.ct_answer.proofs.Base.{arith, eqb-true, Mono, total, total-·, unit, Name, Polynomial, polys, term, number_is, Action, Operator, term_of}
+use Rattle.ct_answer.proofs.Base.{Checked, ◌>>=◌, largest_degree, largest_norm, checked_product, Expr, product_of, Value, over_one, checked_times}
+use Rattle.ct_answer.proofs.Base.{fraction_of, fractions, product_from, times_over_one, fraction_of-Whole, fraction_of-Product, Each, total_unit}
 use Rattle.ct_poly.proofs.TermLists.{positive_coef}
-use Rattle.ct_ore.specs.Measures.{checked_product}
-use Rattle.ct_expr.specs.declared.expr.Expr.{Expr}
-use Rattle.ct_expr.specs.declared.expr.Expr.TheVariants as e
-use Rattle.ct_problem.specs.Grammar.{product_of}
-use Rattle.ct_expr.specs.ValueArithmetic.{Value, over_one, checked_times}
-use Rattle.ct_expr.specs.Value.{fraction_of, fractions, product_from}
-use Rattle.ct_expr.proofs.OverOne.{times_over_one}
-use Rattle.ct_expr.proofs.Values.{fraction_of-Whole, fraction_of-Product}
-use Rattle.ct_problem.specs.WellFormed.{Each}
 use Rattle.ct_answer.specs.declared.factors.Power.{Power}
-use Rattle.ct_ore.proofs.OneTerm.{total_unit}
 use Rattle.ct_answer.proofs.PlainProducts.{times_symbols}
 use Rattle.ct_answer.proofs.PowerMonomials.{monomial_of, all_of, unit_before}
-use Rattle.ct_answer.proofs.PowerValues.{IsSmall, small_term, small_one, one_is_term, more_names, value-name, value-symbol, names_value, symbols_value}
+use Rattle.ct_answer.proofs.PowerValues.{IsSmall, small_term, small_one, one_is_term, more_names, value-name, value-symbol, names_value}
+use Rattle.ct_answer.proofs.PowerValues.{symbols_value}
 use Rattle.ct_answer.proofs.PrintedExpressions.{power_expression, power_expressions, term_expression}
+use Rattle.ct_expr.specs.declared.expr.Expr.TheVariants as e
 
 module _ (a : Name → Action) where
   -- a product of one factor is that factor

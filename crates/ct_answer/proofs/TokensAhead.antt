@@ -1,13 +1,10 @@
 -- A token's bytes at the start of a text are the first piece of it, where what follows is no more of the token. Main lemmas
 -- `word_ahead`, `number_ahead`, `sign_ahead` and `blank_ahead`: the other direction of what a scan makes of a text.
-use Rattle.std.proofs.Common.{◌≡◌, ℕ, suc, ◌+◌, ◌<◌, ◌≤◌, ◌==◌, ◌&&◌, Bool, true, false, List, [], ◌∷◌, ◌++◌, length, IsTrue, refl, ap, ◌∙◌, arith, rules, tests, ne_eqb, nat_le}
-use Rattle.std.specs.List.{prefix_len, take_while, list_all}
-use Rattle.std.proofs.lemmas.Bool.{false≢true}
+use Rattle.ct_answer.proofs.Base.{◌≡◌, ℕ, suc, ◌+◌, ◌<◌, ◌≤◌, ◌==◌, ◌&&◌, Bool, true, false, List, [], ◌∷◌, ◌++◌, length, IsTrue, refl, ap, ◌∙◌}
+use Rattle.ct_answer.proofs.Base.{arith, rules, tests, ne_eqb, nat_le, prefix_len, take_while, list_all, false≢true, is_blank, is_letter, is_digit}
+use Rattle.ct_answer.proofs.Base.{is_word_byte, is_printable, line_end_len, starts_dots, Gap, Lexeme, piece_of, Stops, both}
 use Rattle.ct_token.specs.declared.token.Symbol.TheVariants.{Word, Number, Sign}
-use Rattle.ct_token.specs.Lexical.{is_blank, is_letter, is_digit, is_word_byte, is_printable, line_end_len, starts_dots, Gap, Lexeme, piece_of}
-use Rattle.ct_token.specs.Lexing.{Stops}
 use Rattle.ct_token.proofs.Spellings.{front_length}
-use Rattle.ct_expr.proofs.Values.{both}
 
 -- ---- the tests of bytes
 

@@ -1,18 +1,10 @@
 -- The action of a known name, and what N and σ(d) or δ(d) are for each action. Main lemmas `action_known`,
 -- `denominator_for`, `coefficient_for`. Cited by the functions that match on the action of a summed name.
-use Rattle.std.specs.Prelude.{◌≡◌, ℕ, ◌<◌, ◌≤◌, List, map, length, get_or, slice_get, Some, Ok}
-use Rattle.std.proofs.Common.{Result, sym, ◌∙◌, ap, subst, arith}
-use Rattle.std.proofs.lemmas.Option.{slice_get-map, get_or_from_slice_get}
+use Rattle.ct_cert.proofs.Base.{◌≡◌, ℕ, ◌<◌, ◌≤◌, List, map, length, get_or, slice_get, Some, Ok, Result, sym, ◌∙◌, ap, subst, arith, slice_get-map}
+use Rattle.ct_cert.proofs.Base.{get_or_from_slice_get, Name, name_with, Polynomial, polys, Action, Still, by_action, Summand, Answers}
+use Rattle.ct_cert.proofs.Base.{place-name_with, checked_times, checked_shifted, checked_derived, Naming, actions_of}
 use Rattle.std.specs.Option.{option_map}
-use Rattle.ct_algebra.specs.Names.{Name, name_with}
-use Rattle.ct_algebra.specs.Polynomial.{Polynomial, polys}
-use Rattle.ct_algebra.specs.Actions.{Action, Still, by_action}
-use Rattle.ct_algebra.specs.Certificate.{Summand}
-use Rattle.ct_checked.specs.Checked.{Answers}
 use Rattle.ct_checked.specs.declared.fault.Fault.{Fault}
-use Rattle.ct_mono.proofs.ExponentLaws.{place-name_with}
-use Rattle.ct_poly.specs.Measures.{checked_times, checked_shifted, checked_derived}
-use Rattle.ct_ore.specs.Naming.{Naming, actions_of}
 use Rattle.ct_cert.specs.Arithmetic.{shift_denominator, checked_denominator, checked_coefficient}
 
 pub action_known :

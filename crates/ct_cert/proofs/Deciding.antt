@@ -1,11 +1,7 @@
 -- Truth values that decide facts. Main lemmas `decided`, `same_polynomial_decides`, `same_operator_decides`: the tests for
 -- equality hold exactly where the values are equal, by the laws of a group. Cited by the tests' code and by `Passing`.
-use Rattle.std.specs.Prelude.{◌≡◌, refl, Bool, true, false, IsTrue, ◌↔◌}
-use Rattle.std.specs.Bool.{Decides}
-use Rattle.std.proofs.Common.{sym, ◌∙◌, ap}
+use Rattle.ct_cert.proofs.Base.{◌≡◌, refl, Bool, true, false, IsTrue, ◌↔◌, Decides, sym, ◌∙◌, ap, Polynomial, polys, Operator, operator_group}
 use Rattle.ct_algebra.specs.Group.{Group, neg_unique, neg_neg}
-use Rattle.ct_algebra.specs.Polynomial.{Polynomial, polys}
-use Rattle.ct_algebra.specs.Operators.{Operator, operator_group}
 use Rattle.ct_cert.specs.Arithmetic.{same_polynomial, same_operator}
 
 -- two truth values of one fact

@@ -1,16 +1,8 @@
 -- The loop that looks for a name, one name further. Main lemmas `name_found`, `coefficient_found`, `names_go_on`. Cited by
 -- `term_is_free`.
-use Rattle.std.specs.Prelude.{◌≡◌, ◌≢◌, refl, Bool, true, false, ◌&&◌, ◌↔◌, List, [], ◌∷◌, ℤ}
-use Rattle.std.specs.Bool.{Decides}
-use Rattle.std.proofs.Common.{sym, ◌∙◌, ap}
-use Rattle.std.proofs.lemmas.Bool.{eq-eqb, eqb-true}
-use Rattle.ct_algebra.specs.Terms.{EachTerm}
-use Rattle.ct_algebra.specs.Monomial.{Mono, exp}
-use Rattle.ct_algebra.specs.Names.{Name, place, name_with}
-use Rattle.ct_algebra.specs.Polynomial.{Polynomial}
+use Rattle.ct_cert.proofs.Base.{◌≡◌, ◌≢◌, refl, Bool, true, false, ◌&&◌, ◌↔◌, List, [], ◌∷◌, ℤ, Decides, sym, ◌∙◌, ap, eq-eqb, eqb-true, EachTerm}
+use Rattle.ct_cert.proofs.Base.{Mono, exp, Name, place, name_with, Polynomial, place-name_with, Part}
 use Rattle.ct_algebra.specs.FreeOf.{IsFreeOf}
-use Rattle.ct_mono.proofs.ExponentLaws.{place-name_with}
-use Rattle.ct_ore.specs.declared.answer.Part.{Part}
 use Rattle.ct_cert.specs.Certificates.{names_of, IsSmall}
 use Rattle.ct_cert.specs.Freedom.{each_passes, lacks, polynomial_lacks, term_lacks}
 

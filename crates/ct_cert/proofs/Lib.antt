@@ -1,3 +1,4 @@
+pub mod Base
 pub mod Deciding
 pub mod ByAction
 pub mod Steps

@@ -1,24 +1,15 @@
 -- Where the tests end, and what each test is as code makes it. Main lemmas `tests_at_..`: the first of them that ends ends
 -- all; `denominator_made`, `part_made`, `zero_telescoper`, `free_telescoper`. Cited by `all_tests` and the tests' functions.
-use Rattle.std.specs.Prelude.{◌≡◌, Ok, Err, Bool, true, false, ◌&&◌, not, IsTrue, ◌↔◌, List}
-use Rattle.std.proofs.Common.{sym, ◌∙◌, ap, ap₂}
-use Rattle.ct_algebra.specs.Names.{Name}
-use Rattle.ct_algebra.specs.Polynomial.{Polynomial, polys}
-use Rattle.ct_algebra.specs.Actions.{Action}
-use Rattle.ct_algebra.specs.Operators.{Operator, operator_group, no_operator}
-use Rattle.ct_algebra.specs.Certificate.{Certificate}
-use Rattle.ct_mono.proofs.ExponentLaws.{place-name_with}
-use Rattle.ct_ore.specs.declared.answer.Part.{Part}
-use Rattle.ct_cert.specs.declared.place.Place.TheVariants as places
+use Rattle.ct_cert.proofs.Base.{◌≡◌, Ok, Err, Bool, true, false, ◌&&◌, not, IsTrue, ◌↔◌, List, sym, ◌∙◌, ap, ap₂, Name, Polynomial, polys, Action}
+use Rattle.ct_cert.proofs.Base.{Operator, operator_group, no_operator, Certificate, place-name_with, Part, summand_of, ◌>>=◌}
 use Rattle.ct_cert.specs.declared.place.Support.{Support}
-use Rattle.ct_ore.specs.Answers.{summand_of}
 use Rattle.ct_cert.specs.Certificates.{IsSmall}
 use Rattle.ct_cert.specs.Arithmetic.{checked_part}
 use Rattle.ct_cert.specs.Freedom.{operator_lacks}
-use Rattle.ct_checked.specs.Checked.{◌>>=◌}
 use Rattle.ct_cert.specs.Testing.{Tested, Ending, test_of}
 use Rattle.ct_cert.specs.Tests.{found_test, telescoper_test, scale_test, denominator_test, part_test, for_each, identity_test, tests}
 use Rattle.ct_cert.proofs.Deciding.{decided, polynomial_zero_decides, operator_zero_decides}
+use Rattle.ct_cert.specs.declared.place.Place.TheVariants as places
 
 after : (t rest : Tested (Unit {0})) (u : Unit {0}) → t ≡ Ok u → (t >>= (λ _. rest)) ≡ rest
 after t rest u passed = ap (λ r. r >>= (λ _. rest)) passed

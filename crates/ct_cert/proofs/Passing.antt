@@ -1,24 +1,14 @@
 -- What it means that all tests pass: the certificate certifies. Main lemmas `passing_certifies`, and `answer_certifies`, cited by `check_found`. Each
 -- test's truth value decides its fact (`Deciding`, `Values`, `FreedomSteps`), and the tests pass only where all are true.
-use Rattle.std.specs.Prelude.{◌≡◌, ◌≢◌, refl, Result, Ok, Err, OnOk, Bool, true, false, ◌&&◌, not, List, [], ◌∷◌, length, map}
-use Rattle.std.specs.List.{All}
-use Rattle.std.specs.Bool.{Decides}
-use Rattle.std.proofs.lemmas.List.Elements.{All-nil, All-cons}
-use Rattle.std.proofs.lemmas.Bool.{eq-eqb, eqb-true}
-use Rattle.ct_algebra.specs.Terms.{EachTerm}
-use Rattle.ct_algebra.specs.Monomial.{Mono, exp}
-use Rattle.ct_algebra.specs.Names.{Name, place}
-use Rattle.ct_algebra.specs.Polynomial.{Polynomial, polys}
-use Rattle.ct_algebra.specs.Actions.{Action, Still}
-use Rattle.ct_algebra.specs.Operators.{Operator, operator_group, no_operator}
+use Rattle.ct_cert.proofs.Base.{◌≡◌, ◌≢◌, refl, Result, Ok, Err, OnOk, Bool, true, false, ◌&&◌, not, List, [], ◌∷◌, length, map, All, Decides}
+use Rattle.ct_cert.proofs.Base.{All-nil, All-cons, eq-eqb, eqb-true, EachTerm, Mono, exp, Name, place, Polynomial, polys, Action, Still, Operator}
+use Rattle.ct_cert.proofs.Base.{operator_group, no_operator, Summand, Certificate, Certifies, Checked, ◌>>=◌}
 use Rattle.ct_algebra.specs.FreeOf.{EachName, IsWithout, IsFreeOfAll, OperatorIsFreeOf}
-use Rattle.ct_algebra.specs.Certificate.{Summand, Certificate, Certifies}
 use Rattle.ct_cert.specs.declared.place.Place.{Place}
 use Rattle.ct_cert.specs.declared.place.Stop.{Stop}
 use Rattle.ct_cert.specs.declared.place.Support.{Support}
 use Rattle.ct_cert.specs.Arithmetic.{checked_part, checked_identity}
 use Rattle.ct_cert.specs.Freedom.{each_passes, term_lacks, operator_lacks}
-use Rattle.ct_checked.specs.Checked.{Checked, ◌>>=◌}
 use Rattle.ct_cert.specs.Testing.{Tested, test_of, AnswersTest}
 use Rattle.ct_cert.specs.Tests.{found_test, telescoper_test, scale_test, denominator_test, part_test, for_each, identity_test, tests}
 use Rattle.ct_cert.proofs.Deciding.{polynomial_zero_decides, operator_zero_decides}

@@ -1,31 +1,23 @@
 -- What it means that a test fails: what stands at its place is false. Main lemmas `failing_refutes`, and `answer_refutes`, cited by `check_found`.
 -- The first test that ends the others made its ending itself, with its own place and a truth value that is false.
-use Rattle.std.specs.Prelude.{◌≡◌, ◌≢◌, refl, ℕ, suc, Result, Ok, Err, Bool, true, false, ◌&&◌, not, List, [], ◌∷◌, ◌⊎◌}
-use Rattle.std.specs.List.{Contains}
-use Rattle.std.specs.Bool.{Decides}
-use Rattle.std.proofs.Common.{sym, ap, subst, inl, inr, arith}
-use Rattle.std.proofs.lemmas.Bool.{eq-eqb}
-use Rattle.std.proofs.lemmas.List.Elements.{All-contains}
-use Rattle.ct_algebra.specs.Names.{Name, place}
-use Rattle.ct_algebra.specs.Polynomial.{polys, times}
-use Rattle.ct_algebra.specs.Actions.{Action}
-use Rattle.ct_algebra.specs.Operators.{Operator, operator_group, no_operator}
-use Rattle.ct_algebra.specs.Certificate.{Summand, Certificate, difference_denominator}
+use Rattle.ct_cert.proofs.Base.{◌≡◌, ◌≢◌, refl, ℕ, suc, Result, Ok, Err, Bool, true, false, ◌&&◌, not, List, [], ◌∷◌, ◌⊎◌, Contains, Decides, sym, ap}
+use Rattle.ct_cert.proofs.Base.{subst, inl, inr, arith, eq-eqb, All-contains, Name, place, polys, times, Action, Operator, operator_group}
+use Rattle.ct_cert.proofs.Base.{no_operator, Summand, Certificate, difference_denominator, Checked, ◌>>=◌}
 use Rattle.ct_cert.specs.declared.place.Place.{Place}
-use Rattle.ct_cert.specs.declared.place.Place.TheVariants as places
 use Rattle.ct_cert.specs.declared.place.Stop.{Stop}
 use Rattle.ct_cert.specs.declared.place.Stop.TheVariants.{No, Overflow, NoMemory}
 use Rattle.ct_cert.specs.declared.place.Support.{Support}
 use Rattle.ct_cert.specs.Arithmetic.{checked_part, checked_identity}
 use Rattle.ct_cert.specs.Freedom.{operator_lacks}
-use Rattle.ct_checked.specs.Checked.{Checked, ◌>>=◌}
 use Rattle.ct_cert.specs.Testing.{Tested, Ending, Fails, test_of, AnswersTest, IfNo}
-use Rattle.ct_cert.specs.Tests.{same_support, found_test, telescoper_test, scale_test, denominator_test, part_test, for_each, identity_test, tests, EachNamed, Holds}
+use Rattle.ct_cert.specs.Tests.{same_support, found_test, telescoper_test, scale_test, denominator_test, part_test, for_each, identity_test, tests}
+use Rattle.ct_cert.specs.Tests.{EachNamed, Holds}
 use Rattle.ct_cert.proofs.Deciding.{polynomial_zero_decides, operator_zero_decides}
 use Rattle.ct_cert.proofs.FreedomSteps.{both_pass}
 use Rattle.ct_cert.proofs.Order.{from_telescoper, from_scale, from_denominators, from_factors}
 use Rattle.ct_cert.proofs.Passing.{operator_lacks-free}
 use Rattle.ct_cert.proofs.Values.{part_value, identity_value}
+use Rattle.ct_cert.specs.declared.place.Place.TheVariants as places
 
 record FailsAt (p q : Place) (c : Checked Bool) : Type 0 where
   pub here : q ≡ p

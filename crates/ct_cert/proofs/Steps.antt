@@ -1,14 +1,6 @@
 -- Loops over the parts and over the cofactors, one element further: what is left answers what was asked. Main lemmas
 -- `next_difference`, `next_test`, and `ending_test` where a test ends them. Cited by the loops of the arithmetic and of the tests.
-use Rattle.std.specs.Prelude.{◌≡◌, Ok, Err, List, ◌∷◌, map}
-use Rattle.std.proofs.Common.{sym, ◌∙◌, ap}
-use Rattle.ct_algebra.specs.Names.{Name}
-use Rattle.ct_algebra.specs.Actions.{Action}
-use Rattle.ct_algebra.specs.Operators.{Operator}
-use Rattle.ct_algebra.specs.Certificate.{Summand}
-use Rattle.ct_checked.specs.Checked.{Checked, ◌>>=◌}
-use Rattle.ct_ore.specs.declared.answer.Part.{Part}
-use Rattle.ct_ore.specs.Answers.{summand_of}
+use Rattle.ct_cert.proofs.Base.{◌≡◌, Ok, Err, List, ◌∷◌, map, sym, ◌∙◌, ap, Name, Action, Operator, Summand, Checked, ◌>>=◌, Part, summand_of}
 use Rattle.ct_cert.specs.Arithmetic.{with_difference, checked_differences}
 use Rattle.ct_cert.specs.Testing.{Tested, Ending}
 use Rattle.ct_cert.specs.Tests.{for_each}

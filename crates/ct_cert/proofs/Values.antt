@@ -1,23 +1,18 @@
 -- The values of checked arithmetic are those of ct_algebra's page of certificates. Main lemmas `part_value`,
 -- `identity_value`: where a checked truth value is there, it decides the equation. Cited by `Passing`.
-use Rattle.std.specs.Prelude.{◌≡◌, Ok, Bool, List, [], ◌∷◌}
-use Rattle.std.specs.Bool.{Decides}
-use Rattle.std.proofs.Common.{sym, ◌∙◌, ap, ap₂}
+use Rattle.ct_cert.proofs.Base.{◌≡◌, Ok, Bool, List, [], ◌∷◌, Decides, sym, ◌∙◌, ap, ap₂, unit, Name, symbol, Polynomial, polys, times, Action, Shift}
+use Rattle.ct_cert.proofs.Base.{Derive, Still, by_action, sigma, sigma_by, delta, delta_by, Operator, operator_group, no_operator, sum_of_operators}
+use Rattle.ct_cert.proofs.Base.{negative, term_of, symbol_before, multiple, combination, Summand, Certificate, difference_denominator}
+use Rattle.ct_cert.proofs.Base.{difference_numerator, differences, IsIdentity, ◌>>=◌, verdict_ok, both_fit, checked_times, checked_shifted}
+use Rattle.ct_cert.proofs.Base.{checked_derived, shifted, product_overflow, shift_overflow, derivative_overflow}
 use Rattle.ct_algebra.specs.Group.{zero_add}
-use Rattle.ct_algebra.specs.Monomial.{unit}
-use Rattle.ct_algebra.specs.Names.{Name, symbol}
-use Rattle.ct_algebra.specs.Polynomial.{Polynomial, polys, times}
-use Rattle.ct_algebra.specs.Actions.{Action, Shift, Derive, Still, by_action, sigma, sigma_by, delta, delta_by}
-use Rattle.ct_algebra.specs.Operators.{Operator, operator_group, no_operator, sum_of_operators, negative, term_of, symbol_before, multiple, combination}
-use Rattle.ct_algebra.specs.Certificate.{Summand, Certificate, difference_denominator, difference_numerator, differences, IsIdentity}
 use Rattle.ct_algebra.proofs.ProductRule.{product_of-polynomial, product_of-symbol}
-use Rattle.ct_checked.specs.Checked.{◌>>=◌, verdict_ok, both_fit}
-use Rattle.ct_poly.specs.Measures.{checked_times, checked_shifted, checked_derived, shifted, product_overflow, shift_overflow, derivative_overflow}
 use Rattle.ct_ore.specs.Measures.{checked_sum, checked_difference, difference_of_operators, checked_product, checked_combination}
-use Rattle.ct_ore.specs.Measures as operators
 use Rattle.ct_ore.proofs.CheckedValues.{checked_values, combination_value}
-use Rattle.ct_cert.specs.Arithmetic.{same_polynomial, same_operator, shift_denominator, checked_denominator, checked_coefficient, checked_numerator, with_difference, checked_differences, checked_part, checked_identity, checked_multiple}
+use Rattle.ct_cert.specs.Arithmetic.{same_polynomial, same_operator, shift_denominator, checked_denominator, checked_coefficient, checked_numerator}
+use Rattle.ct_cert.specs.Arithmetic.{with_difference, checked_differences, checked_part, checked_identity, checked_multiple}
 use Rattle.ct_cert.proofs.Deciding.{same_polynomial_decides, same_operator_decides}
+use Rattle.ct_ore.specs.Measures as operators
 
 times_value : (p q r : Polynomial) → checked_times p q ≡ Ok r → times p q ≡ r
 unfolding checked_times

@@ -1,10 +1,8 @@
 -- How the answer to a first step is one to all the steps.
-use Rattle.std.proofs.Common.{◌≡◌, Result, Ok, Err, ap}
+use Rattle.ct_expr.proofs.Base.{◌≡◌, Result, Ok, Err, ap, false≢true, Checked, ◌>>=◌, Answers}
 use Rattle.std.specs.Result.{IsErr, IsErrAnd}
-use Rattle.std.proofs.lemmas.Bool.{false≢true}
 use Rattle.ct_checked.specs.declared.fault.Fault.{Fault}
 use Rattle.ct_checked.specs.declared.fault.Fault.TheVariants.{Overflow, NoMemory}
-use Rattle.ct_checked.specs.Checked.{Checked, ◌>>=◌, Answers}
 
 -- where the first step ends, all do
 pub ends_all : {A B : Type 0} (c : Checked A) (f : A → Checked B) (fault : Fault) → Answers c (Err fault) → Answers (c >>= f) (Err fault)

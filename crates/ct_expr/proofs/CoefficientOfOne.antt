@@ -1,17 +1,10 @@
 -- The coefficient of 1 among the terms of an operator, term by term: `one_is_there` where it stands, `one_is_later` past
 -- another term, and `one_is_nowhere` at the end.
-use Rattle.std.proofs.Common.{◌≡◌, ℕ, ◌+◌, ◌<◌, ◌≤◌, true, false, List, ◌∷◌, length, drop, get_or, sym, ap, ◌∙◌, subst}
-use Rattle.std.proofs.lemmas.List.{drop_all}
-use Rattle.std.proofs.lemmas.Bool.{false≢true}
-use Rattle.ct_algebra.specs.Group.{zero_add}
-use Rattle.ct_algebra.specs.Monomial.{Mono, monomials, unit}
-use Rattle.ct_algebra.specs.Polynomial.{Polynomial, polys}
+use Rattle.ct_expr.proofs.Base.{◌≡◌, ℕ, ◌+◌, ◌<◌, ◌≤◌, true, false, List, ◌∷◌, length, drop, get_or, sym, ap, ◌∙◌, subst, drop_all, false≢true}
+use Rattle.ct_expr.proofs.Base.{zero_add, Mono, monomials, unit, Polynomial, polys, Operator, polynomial_at, pick-other, mono_eq, mono_eq_decides}
 use Rattle.ct_algebra.specs.Terms.{value_at, pick, IsCanonical}
 use Rattle.ct_algebra.specs.Laws.Terms.{at_head}
 use Rattle.ct_algebra.specs.Sums.{at}
-use Rattle.ct_algebra.specs.Operators.{Operator, polynomial_at}
-use Rattle.ct_algebra.proofs.OperatorTerms.{pick-other}
-use Rattle.ct_mono.specs.Equal.{mono_eq, mono_eq_decides}
 use Rattle.ct_ore.specs.declared.op.OpTerm.{OpTerm}
 use Rattle.ct_ore.specs.Terms.{op_entries, IsOperator}
 use Rattle.ct_expr.proofs.Turns.{next_item}

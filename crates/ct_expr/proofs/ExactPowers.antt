@@ -1,25 +1,16 @@
 -- A power of a value is the power of the fraction. Main lemma `powers_are_exact`, which the law of this name cites. Each turn of
 -- a power is a product of values; the whole number of the value on the way stands on both sides, and cancels.
-use Rattle.std.proofs.Common.{◌≡◌, ℕ, zero, suc, pos, ◌*◌, ◌^◌, ◌<◌, Ok, sym, ◌∙◌, ap, ap₂, subst, arith}
-use Rattle.std.proofs.Math.Nat.{pow-zero, pow-succ'}
+use Rattle.ct_expr.proofs.Base.{◌≡◌, ℕ, zero, suc, pos, ◌*◌, ◌^◌, ◌<◌, Ok, sym, ◌∙◌, ap, ap₂, subst, arith, pow-zero, pow-succ', Mono, unit, Name}
+use Rattle.ct_expr.proofs.Base.{Action, polys, polys_domain, coefficient, times_is, number, number_is, one_is, Operator, polynomial_at, term_of}
+use Rattle.ct_expr.proofs.Base.{product_of, product_of_assoc, one-product_of, product_of-polynomial, both_fit, whole_operator, scaled, scaled_twice}
 use Rattle.ct_algebra.specs.Domain.{mul_cancel}
-use Rattle.ct_algebra.specs.Monomial.{Mono, unit}
-use Rattle.ct_algebra.specs.Names.{Name}
-use Rattle.ct_algebra.specs.Actions.{Action}
-use Rattle.ct_algebra.specs.Polynomial.{polys, polys_domain, coefficient, times_is}
-use Rattle.ct_algebra.specs.Substitution.{number, number_is, one_is}
-use Rattle.ct_algebra.specs.Operators.{Operator, polynomial_at, term_of, product_of, product_of_assoc}
-use Rattle.ct_algebra.proofs.OperatorLawProofs as operator_laws
-use Rattle.ct_algebra.proofs.PolynomialLawProofs as polynomial_laws
-use Rattle.ct_algebra.proofs.ProductRule.{one-product_of, product_of-polynomial}
-use Rattle.ct_checked.specs.Checked.{both_fit}
-use Rattle.ct_ore.specs.Wholes.{whole_operator}
-use Rattle.ct_ore.proofs.WholeLaws.{scaled, scaled_twice}
 use Rattle.ct_expr.specs.ValueArithmetic.{Value, IsValue, checked_times}
 use Rattle.ct_expr.specs.Value.{power_from, one_operator, one_value}
 use Rattle.ct_expr.specs.ValueLaws.{PowersAreExact, power_of_operator}
 use Rattle.ct_expr.proofs.ExactValues.{products_are_exact}
 use Rattle.ct_expr.proofs.LowestValues.{checked_times-right}
+use Rattle.ct_algebra.proofs.OperatorLawProofs as operator_laws
+use Rattle.ct_algebra.proofs.PolynomialLawProofs as polynomial_laws
 
 some_number : (n : ℕ) → 0 < n → number (pos n) ≡ polys.zero → ⊥
 some_number n some none =

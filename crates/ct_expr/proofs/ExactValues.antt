@@ -2,24 +2,13 @@
 -- lemmas `sums_are_exact`, `differences_are_exact`, `products_are_exact`, `quotients_are_exact` and `negatives_are_exact`, which
 -- the laws of the same names cite. With the least common multiple m of p and q, and h their greatest common divisor, h·m is p·q;
 -- so what is cleared to m is 1/h of what is multiplied crosswise.
-use Rattle.std.proofs.Common.{◌≡◌, ℕ, pos, ◌*◌, ◌/◌, ◌<◌, Ok, refl, sym, ◌∙◌, ap, ap₂, subst, arith}
+use Rattle.ct_expr.proofs.Base.{◌≡◌, ℕ, pos, ◌*◌, ◌/◌, ◌<◌, Ok, refl, sym, ◌∙◌, ap, ap₂, subst, arith, div-mul_cancel, eq_of_mul-eq-mul_right}
+use Rattle.ct_expr.proofs.Base.{hom_neg, zero_add, unit, one_is, number, one-product_of, Name, Action, Operator, operator_group, no_operator}
+use Rattle.ct_expr.proofs.Base.{sum_of_operators, negative, product_of, term_of, none_is, sums_are, negatives_are, greatest_common, least_common}
+use Rattle.ct_expr.proofs.Base.{Checked, both_fit, verdict_ok, whole_ok, checked_sum, checked_difference, checked_product, difference_of_operators}
+use Rattle.ct_expr.proofs.Base.{common_divisor, over_whole, checked_multiple, scaled, scaled_twice, scaled-sum, scaled_quotient}
 use Rattle.std.specs.Int.{IsGcd}
-use Rattle.std.proofs.Math.Nat.{div-mul_cancel, eq_of_mul-eq-mul_right}
-use Rattle.ct_algebra.specs.Group.{hom_neg, zero_add}
-use Rattle.ct_algebra.specs.Monomial.{unit}
-use Rattle.ct_algebra.specs.Substitution.{one_is, number}
-use Rattle.ct_algebra.proofs.ProductRule.{one-product_of}
-use Rattle.ct_algebra.specs.Names.{Name}
-use Rattle.ct_algebra.specs.Actions.{Action}
-use Rattle.ct_algebra.specs.Operators.{Operator, operator_group, no_operator, sum_of_operators, negative, product_of, term_of}
-use Rattle.ct_algebra.proofs.OperatorTerms.{none_is, sums_are, negatives_are}
-use Rattle.ct_int.specs.Divisors.{greatest_common, least_common}
 use Rattle.ct_int.proofs.CommonDivisors.{greatest_common_is}
-use Rattle.ct_checked.specs.Checked.{Checked, both_fit, verdict_ok}
-use Rattle.ct_poly.proofs.WholeLimits.{whole_ok}
-use Rattle.ct_ore.specs.Measures.{checked_sum, checked_difference, checked_product, difference_of_operators}
-use Rattle.ct_ore.specs.Wholes.{common_divisor, over_whole, checked_multiple}
-use Rattle.ct_ore.proofs.WholeLaws.{scaled, scaled_twice, scaled-sum, scaled_quotient}
 use Rattle.ct_expr.specs.ValueArithmetic.{Value, IsValue, lowest, negated}
 use Rattle.ct_expr.specs.Value.{operator_of_polynomial, ratio}
 use Rattle.ct_expr.specs.ValueLaws.{IsJoined, SumsAreExact, DifferencesAreExact, ProductsAreExact, QuotientsAreExact, NegativesAreExact}

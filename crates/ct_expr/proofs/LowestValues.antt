@@ -1,16 +1,8 @@
 -- The value of an expression is in lowest terms, over a whole number from 1 to the greatest coefficient. Main lemma
 -- `values_are_lowest`: each step ends in lowest terms, or keeps them.
-use Rattle.std.proofs.Common.{◌≡◌, ℕ, ◌<◌, ◌≤◌, true, ℤ, pos, negsuc, nat_le, nat_lt, Ok, unsigned_abs, refl, sym, subst, arith, rules, tests}
-use Rattle.std.proofs.lemmas.Bool.{false≢true}
-use Rattle.std.proofs.Math.Nat.{eq-one_of_dvd-one}
-use Rattle.ct_algebra.specs.Names.{Name}
-use Rattle.ct_algebra.specs.Actions.{Action}
-use Rattle.ct_algebra.specs.Operators.{Operator, no_operator}
-use Rattle.ct_algebra.specs.Substitution.{number}
-use Rattle.ct_checked.specs.Checked.{both_fit}
-use Rattle.ct_checked.specs.Limits.{largest_norm}
-use Rattle.ct_ore.specs.Measures.{checked_difference}
-use Rattle.ct_ore.specs.Wholes.{DividesOperator}
+use Rattle.ct_expr.proofs.Base.{◌≡◌, ℕ, ◌<◌, ◌≤◌, true, ℤ, pos, negsuc, nat_le, nat_lt, Ok, unsigned_abs, refl, sym, subst, arith, rules, tests}
+use Rattle.ct_expr.proofs.Base.{false≢true, eq-one_of_dvd-one, Name, Action, Operator, no_operator, number, both_fit, largest_norm}
+use Rattle.ct_expr.proofs.Base.{checked_difference, DividesOperator}
 use Rattle.ct_ore.proofs.LowestQuotients.{divides_back, nothing_more_divides}
 use Rattle.ct_expr.specs.ValueArithmetic.{Value, IsValue, IsLowest, over_one, lowest, negated, checked_plus, checked_minus, checked_times}
 use Rattle.ct_expr.specs.Value.{evaluable_step, is_divisor, is_evaluable, is_ratio, is_coefficient, operator_of_polynomial, ratio}

@@ -1,14 +1,7 @@
 -- Values over 1 are computed as their operators are. Main lemmas `plus_over_one`, `minus_over_one`, `negated_over_one` and
 -- `times_over_one`, which rest on `lowest_one` and on the multiple by 1.
-use Rattle.std.proofs.Common.{◌≡◌, refl, ◌≤◌, Ok, ◌∙◌, ap, arith}
-use Rattle.ct_algebra.specs.Names.{Name}
-use Rattle.ct_algebra.specs.Actions.{Action}
-use Rattle.ct_algebra.specs.Operators.{Operator, no_operator}
-use Rattle.ct_int.specs.Divisors.{greatest_common, least_common}
-use Rattle.ct_checked.specs.Limits.{largest_norm}
-use Rattle.ct_poly.specs.Wholes.{checked_whole}
-use Rattle.ct_poly.proofs.WholeLimits.{whole_fits}
-use Rattle.ct_ore.specs.Measures.{term_norm, checked_sum, checked_difference, checked_product}
+use Rattle.ct_expr.proofs.Base.{◌≡◌, refl, ◌≤◌, Ok, ◌∙◌, ap, arith, Name, Action, Operator, no_operator, greatest_common, least_common, largest_norm}
+use Rattle.ct_expr.proofs.Base.{checked_whole, whole_fits, term_norm, checked_sum, checked_difference, checked_product}
 use Rattle.ct_ore.proofs.WholeMultiples.{once}
 use Rattle.ct_expr.specs.ValueArithmetic.{over_one, negated, cleared, checked_plus, checked_minus, checked_times}
 use Rattle.ct_expr.proofs.ValueArithmetic.{lowest_one}

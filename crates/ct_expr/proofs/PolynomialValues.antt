@@ -1,21 +1,12 @@
 -- The value of an expression without symbols is a polynomial. Main lemma `polynomials_lose_nothing`, since sums, differences
 -- and products of polynomials are polynomials.
-use Rattle.std.proofs.Common.{◌≡◌, ℕ, Bool, true, false, List, [], ◌∷◌, map, Ok, pos, unsigned_abs, refl, sym, ap, ap₂, ◌∙◌, subst}
-use Rattle.std.proofs.lemmas.Bool.{false≢true}
-use Rattle.ct_algebra.specs.Group.{hom_neg}
-use Rattle.ct_algebra.specs.Names.{Name, name_with}
-use Rattle.ct_algebra.specs.Monomial.{Mono, unit}
+use Rattle.ct_expr.proofs.Base.{◌≡◌, ℕ, Bool, true, false, List, [], ◌∷◌, map, Ok, pos, unsigned_abs, refl, sym, ap, ap₂, ◌∙◌, subst, false≢true}
+use Rattle.ct_expr.proofs.Base.{hom_neg, Name, name_with, Mono, unit, Polynomial, polys, times, number, name, Action, Operator, operator_of}
+use Rattle.ct_expr.proofs.Base.{no_operator, negative, operator_group, polynomial_at, product_of, sum_of_operators, term_of, at-term_of}
+use Rattle.ct_expr.proofs.Base.{negatives_are, pick-same, term_of-sum, term_of-zero, term_of_hom, multiple-term_of, product_of-polynomial, Checked}
+use Rattle.ct_expr.proofs.Base.{both_fit, verdict_ok, checked_sum, checked_difference, checked_product, difference_of_operators, whole_operator}
+use Rattle.ct_expr.proofs.Base.{common_divisor, over_whole, entry_over, checked_multiple}
 use Rattle.ct_algebra.specs.Terms.{EachTerm}
-use Rattle.ct_algebra.specs.Polynomial.{Polynomial, polys, times}
-use Rattle.ct_algebra.specs.Substitution.{number, name}
-use Rattle.ct_algebra.specs.Actions.{Action}
-use Rattle.ct_algebra.specs.Operators.{Operator, operator_of, no_operator, negative, operator_group, polynomial_at, product_of, sum_of_operators, term_of}
-use Rattle.ct_algebra.proofs.OperatorLawProofs as operator_laws
-use Rattle.ct_algebra.proofs.OperatorTerms.{at-term_of, negatives_are, pick-same, term_of-sum, term_of-zero, term_of_hom}
-use Rattle.ct_algebra.proofs.ProductRule.{multiple-term_of, product_of-polynomial}
-use Rattle.ct_checked.specs.Checked.{Checked, both_fit, verdict_ok}
-use Rattle.ct_ore.specs.Measures.{checked_sum, checked_difference, checked_product, difference_of_operators}
-use Rattle.ct_ore.specs.Wholes.{whole_operator, common_divisor, over_whole, entry_over, checked_multiple}
 use Rattle.ct_ore.proofs.OperatorMeasures.{terms-term_of}
 use Rattle.ct_ore.proofs.WrittenOperators.{terms-no_operator}
 use Rattle.ct_expr.specs.ValueArithmetic.{Value, lowest, negated, checked_plus, checked_minus, checked_times}
@@ -23,6 +14,7 @@ use Rattle.ct_expr.specs.Value.{operator_of_polynomial, value_of, fraction_of, h
 use Rattle.ct_expr.specs.ValueLaws.{PolynomialsLoseNothing}
 use Rattle.ct_expr.proofs.ValueSteps.{plus_steps, minus_steps, times_steps}
 use Rattle.ct_expr.proofs.ValueInduction.{Keeps, values_keep}
+use Rattle.ct_algebra.proofs.OperatorLawProofs as operator_laws
 
 -- ---- polynomials among operators
 

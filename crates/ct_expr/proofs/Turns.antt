@@ -1,6 +1,5 @@
 -- A recursion on a count of turns, or on a list, beside a loop that goes up.
-use Rattle.std.proofs.Common.{◌≡◌, ℕ, suc, ◌+◌, ◌-◌, ◌<◌, ◌≤◌, List, [], ◌∷◌, length, drop, get_or, ap, ap₂, sym, ◌∙◌, arith, drop-cons}
-use Rattle.std.proofs.lemmas.List.{drop_all}
+use Rattle.ct_expr.proofs.Base.{◌≡◌, ℕ, suc, ◌+◌, ◌-◌, ◌<◌, ◌≤◌, List, [], ◌∷◌, length, drop, get_or, ap, ap₂, sym, ◌∙◌, arith, drop-cons, drop_all}
 
 module _ {X : Type 0} {x : X} (f : ℕ → X) (n at : ℕ) where
   pub one_more : at < n → x ≡ f (n - at) → x ≡ f (suc (n - (at + 1)))

@@ -1,19 +1,14 @@
 -- Values in code: what their steps ask. Main lemmas `clears` (a least common multiple within the limit can be cleared to),
 -- `divisor_fits` (a common divisor can be divided by) and `lowest_one` (nothing has to be done over 1).
-use Rattle.std.proofs.Common.{◌≡◌, ℕ, ◌*◌, ◌/◌, ◌<◌, ◌≤◌, Ok, sym, ◌∙◌, ap, subst, arith, mul-pos}
+use Rattle.ct_expr.proofs.Base.{◌≡◌, ℕ, ◌*◌, ◌/◌, ◌<◌, ◌≤◌, Ok, sym, ◌∙◌, ap, subst, arith, mul-pos, div-mul_cancel, pos_of_ne-zero}
+use Rattle.ct_expr.proofs.Base.{le-mul_of_pos_right, eq-one_of_dvd-one, Operator, least_common, largest_norm, checked_whole, whole_ok}
+use Rattle.ct_expr.proofs.Base.{DividesOperator, common_divisor, over_whole}
 use Rattle.std.specs.Int.{◌∣◌}
 use Rattle.std.proofs.lemmas.Nat.Gcd.{dvd_refl, le_of_dvd}
-use Rattle.std.proofs.Math.Nat.{div-mul_cancel, pos_of_ne-zero, le-mul_of_pos_right, eq-one_of_dvd-one}
-use Rattle.ct_algebra.specs.Operators.{Operator}
-use Rattle.ct_int.specs.Divisors.{least_common}
 use Rattle.ct_int.proofs.CommonMultiples.{LeastCommon, least_common_is}
-use Rattle.ct_checked.specs.Limits.{largest_norm}
-use Rattle.ct_poly.specs.Wholes.{checked_whole}
-use Rattle.ct_poly.proofs.WholeLimits.{whole_ok}
-use Rattle.ct_ore.specs.Wholes.{DividesOperator, common_divisor, over_whole}
 use Rattle.ct_ore.proofs.WholeDivisors.{common_is, divisor_some}
-use Rattle.ct_ore.proofs.WholeDivisors as divisors
 use Rattle.ct_expr.specs.ValueArithmetic.{Value, over_one, lowest}
+use Rattle.ct_ore.proofs.WholeDivisors as divisors
 
 -- a positive number within the limit
 pub record IsFactor (n : ℕ) : Type 0 where

@@ -1,19 +1,15 @@
 -- What each step of values keeps holds of the value of an expression. Main lemma `values_keep`, by induction on the expression,
 -- which the laws of polynomials and of lowest terms cite.
 --     Keeps a P step     the steps of values keep P; a sum, a product and a power are asked for what is asked for their parts
-use Rattle.std.proofs.Common.{◌≡◌, ℕ, zero, suc, ℤ, Bool, true, false, List, [], ◌∷◌, map, Option, Some, None, Ok, sym, ap, ◌∙◌, subst}
-use Rattle.ct_algebra.specs.Names.{Name, name_with, symbol}
-use Rattle.ct_algebra.specs.Actions.{Action}
-use Rattle.ct_algebra.specs.Polynomial.{polys}
-use Rattle.ct_algebra.specs.Substitution.{number, name}
-use Rattle.ct_algebra.specs.Operators.{no_operator, term_of}
-use Rattle.ct_checked.specs.Checked.{Checked, ◌>>=◌, both_fit}
+use Rattle.ct_expr.proofs.Base.{◌≡◌, ℕ, zero, suc, ℤ, Bool, true, false, List, [], ◌∷◌, map, Option, Some, None, Ok, sym, ap, ◌∙◌, subst, Name}
+use Rattle.ct_expr.proofs.Base.{name_with, symbol, Action, polys, number, name, no_operator, term_of, Checked, ◌>>=◌, both_fit}
 use Rattle.ct_expr.specs.declared.expr.Expr.{Expr, roll-Expr}
 use Rattle.ct_expr.specs.declared.expr.Expr.TheFolds.{fold-Expr, fold-Summand, fold-roll-Expr, fold-roll-Summand, ind-Expr, map-Expr, map-Summand}
 use Rattle.ct_expr.specs.declared.expr.Expr.TheOpen.{Expr-F, Summand-F}
 use Rattle.ct_expr.specs.declared.expr.Summand.{Summand, roll-Summand}
 use Rattle.ct_expr.specs.ValueArithmetic.{Value, over_one, negated, checked_plus, checked_minus, checked_times}
-use Rattle.ct_expr.specs.Value.{joined, multiplied, one_value, operator_of_polynomial, ratio, or_else, power_from, product_from, sum_from, fraction_of, fraction_of_term, value_step, term_step, all_true}
+use Rattle.ct_expr.specs.Value.{joined, multiplied, one_value, operator_of_polynomial, ratio, or_else, power_from, product_from, sum_from}
+use Rattle.ct_expr.specs.Value.{fraction_of, fraction_of_term, value_step, term_step, all_true}
 use Rattle.ct_expr.proofs.Values.{both}
 
 pub record Keeps (a : Name → Action) (P : Value → Type 0) (step : Expr-F Bool Bool → Bool) : Type 0 where

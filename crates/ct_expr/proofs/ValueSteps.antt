@@ -1,14 +1,7 @@
 -- The steps of a sum, a difference and a product of values that do not overflow. Main lemmas `plus_steps`, `minus_steps` and
 -- `times_steps`, which the laws of values cite.
-use Rattle.std.proofs.Common.{◌≡◌, ℕ, ◌*◌, ◌/◌, Ok, ap, ap₂, ◌∙◌}
-use Rattle.ct_algebra.specs.Names.{Name}
-use Rattle.ct_algebra.specs.Actions.{Action}
-use Rattle.ct_algebra.specs.Operators.{Operator}
-use Rattle.ct_int.specs.Divisors.{least_common}
-use Rattle.ct_checked.specs.Checked.{Checked, both_fit}
-use Rattle.ct_poly.specs.Wholes.{checked_whole}
-use Rattle.ct_ore.specs.Measures.{checked_sum, checked_difference, checked_product}
-use Rattle.ct_ore.specs.Wholes.{checked_multiple}
+use Rattle.ct_expr.proofs.Base.{◌≡◌, ℕ, ◌*◌, ◌/◌, Ok, ap, ap₂, ◌∙◌, Name, Action, Operator, least_common, Checked, both_fit, checked_whole}
+use Rattle.ct_expr.proofs.Base.{checked_sum, checked_difference, checked_product, checked_multiple}
 use Rattle.ct_expr.specs.declared.value.Cleared.{Cleared}
 use Rattle.ct_expr.specs.ValueArithmetic.{Value, lowest, cleared, checked_plus, checked_minus, checked_times}
 

@@ -1,22 +1,18 @@
 -- The values of the kinds of expressions, one level at a time, and what it says of the parts that the whole can be
 -- evaluated. `sum_step` and `product_step` are a turn of the loops; `evaluate` cites all of them.
-use Rattle.std.proofs.Common.{◌≡◌, ℕ, ℤ, ◌<◌, ◌≤◌, Bool, List, nat_lt, nat_le, ◌∙◌, ap, sym, subst, refl, Ok, IsTrue, pos, negsuc, to_z, of_z, FitsSigned, ◌∷◌, true, false, ◌&&◌, Option, Some, rules, arith, tests}
-use Rattle.std.proofs.lemmas.Bool.{false≢true}
+use Rattle.ct_expr.proofs.Base.{◌≡◌, ℕ, ℤ, ◌<◌, ◌≤◌, Bool, List, nat_lt, nat_le, ◌∙◌, ap, sym, subst, refl, Ok, IsTrue, pos, negsuc, to_z, of_z}
+use Rattle.ct_expr.proofs.Base.{FitsSigned, ◌∷◌, true, false, ◌&&◌, Option, Some, rules, arith, tests, false≢true, Name, name_with, symbol, polys}
+use Rattle.ct_expr.proofs.Base.{number, name, Action, term_of, largest_norm, ◌>>=◌}
 use Rattle.std.specs.Int.{w128}
 use Rattle.std.proofs.lemmas.Int.{to_z-of_z, fits_signed_from_abs}
-use Rattle.ct_algebra.specs.Names.{Name, name_with, symbol}
-use Rattle.ct_algebra.specs.Polynomial.{polys}
-use Rattle.ct_algebra.specs.Substitution.{number, name}
-use Rattle.ct_algebra.specs.Actions.{Action}
-use Rattle.ct_algebra.specs.Operators.{term_of}
-use Rattle.ct_checked.specs.Limits.{largest_norm}
-use Rattle.ct_checked.specs.Checked.{◌>>=◌}
 use Rattle.ct_expr.specs.declared.expr.Expr.{Expr}
-use Rattle.ct_expr.specs.declared.expr.Expr.TheVariants as e
 use Rattle.ct_expr.specs.declared.expr.Expr.TheFolds.{fold-roll-Expr, fold_out-Summand}
 use Rattle.ct_expr.specs.declared.expr.Summand.{Summand, out-Summand}
 use Rattle.ct_expr.specs.ValueArithmetic.{Value, over_one}
-use Rattle.ct_expr.specs.Value.{joined, multiplied, sum_from, product_from, fraction_of, value_step, sum_of_values, product_of_values, power_from, one_value, operator_of_polynomial, ratio, signed, fractions, is_evaluable, evaluable_step, is_evaluable_term, is_coefficient, is_divisor, is_ratio, fraction_of_term, all_evaluable, all_evaluable_terms}
+use Rattle.ct_expr.specs.Value.{joined, multiplied, sum_from, product_from, fraction_of, value_step, sum_of_values, product_of_values, power_from}
+use Rattle.ct_expr.specs.Value.{one_value, operator_of_polynomial, ratio, signed, fractions, is_evaluable, evaluable_step, is_evaluable_term}
+use Rattle.ct_expr.specs.Value.{is_coefficient, is_divisor, is_ratio, fraction_of_term, all_evaluable, all_evaluable_terms}
+use Rattle.ct_expr.specs.declared.expr.Expr.TheVariants as e
 
 module _ (a : Name → Action) where
   pub fraction_of-Whole : (n : ℤ) → fraction_of a (e.Whole n) ≡ Ok (over_one (operator_of_polynomial (number n)))

@@ -1,14 +1,8 @@
 -- Clearing multiplies the numerator by what the denominator lacks. Main lemmas `cleared_ok` and `wider_ok`: a common
 -- denominator is divided by each part, and the cleared numerator times the part is the numerator times the whole.
-use Rattle.std.specs.Prelude.{◌≡◌, refl, ℕ, zero, suc, ◌+◌, ◌-◌, ◌/◌, ◌<◌, ◌≤◌, pos, Ok, List, [], ◌∷◌}
-use Rattle.std.proofs.Common.{Ordering, Less, Equal, Greater, sym, ◌∙◌, ap, ap₂, subst, arith}
-use Rattle.std.proofs.Math.Nat.{div-mul_cancel}
-use Rattle.ct_algebra.specs.Polynomial.{Polynomial, polys, times, times_assoc}
-use Rattle.ct_algebra.specs.Substitution.{number}
-use Rattle.ct_algebra.specs.Terms.{by_order}
-use Rattle.ct_checked.specs.Checked.{both_fit, verdict_ok}
-use Rattle.ct_poly.specs.Measures.{checked_times}
-use Rattle.ct_poly.specs.Order.{poly_cmp, poly_tied}
+use Rattle.ct_frac.proofs.Base.{◌≡◌, refl, ℕ, zero, suc, ◌+◌, ◌-◌, ◌/◌, ◌<◌, ◌≤◌, pos, Ok, List, [], ◌∷◌, Ordering, Less, Equal, Greater, sym, ◌∙◌}
+use Rattle.ct_frac.proofs.Base.{ap, ap₂, subst, arith, div-mul_cancel, Polynomial, polys, times, times_assoc, number, by_order, both_fit, verdict_ok}
+use Rattle.ct_frac.proofs.Base.{checked_times, poly_cmp, poly_tied}
 use Rattle.ct_frac.specs.declared.factor.Factor.{Factor}
 use Rattle.ct_frac.specs.Arithmetic.{exponent_in, EachIsIn, DividesFactors, checked_often, checked_spread, checked_cleared}
 use Rattle.ct_frac.specs.Written.{Denominator, Written, IsBelow, AreFactors, IsDenominator, power, product_of_factors, multiplied_out}

@@ -1,24 +1,15 @@
 -- A common denominator is a denominator, each part divides it factor by factor, and it divides whatever all parts divide. Main
 -- lemmas `wider_ok` for two fractions, `common_divided` for a list, and `divided_by_each` and `divides_common`, which the laws
 -- cite.
-use Rattle.std.specs.Prelude.{◌≡◌, refl, ℕ, ◌≤◌, max, Ok, List, [], ◌∷◌}
-use Rattle.std.proofs.Common.{Ordering, Less, Equal, Greater, sym, subst, arith}
-use Rattle.std.specs.Int.{◌∣◌}
-use Rattle.std.proofs.lemmas.Nat.Gcd.{dvd_trans, dvd_refl}
-use Rattle.std.proofs.Math.Nat.{one-dvd}
-use Rattle.ct_algebra.specs.Terms.{by_order}
-use Rattle.ct_checked.specs.Checked.{both_fit}
-use Rattle.ct_poly.specs.Wholes.{checked_whole}
-use Rattle.ct_poly.specs.Order.{poly_cmp, poly_tied}
+use Rattle.ct_frac.proofs.Base.{◌≡◌, refl, ℕ, ◌≤◌, max, Ok, List, [], ◌∷◌, Ordering, Less, Equal, Greater, sym, subst, arith, ◌∣◌, dvd_trans}
+use Rattle.ct_frac.proofs.Base.{dvd_refl, one-dvd, by_order, both_fit, checked_whole, poly_cmp, poly_tied, least_common, whole_ok}
 use Rattle.ct_frac.specs.declared.factor.Factor.{Factor}
 use Rattle.ct_frac.specs.Arithmetic.{exponent_in, joined_greatest, all_greatest, EachIsIn, DividesFactors, checked_wider, checked_common}
-use Rattle.ct_int.specs.Divisors.{least_common}
 use Rattle.ct_frac.specs.FractionLaws.{EachIsWritten, EachDivides, CommonDenominatorIsDivided, CommonDenominatorIsLeast}
 use Rattle.ct_frac.specs.Written.{Denominator, Written, IsDenominator, one_den}
 use Rattle.ct_int.proofs.CommonMultiples.{LeastCommon, least_common_is, least_common_least}
 use Rattle.ct_frac.proofs.Exponents.{all_grow, all_stand, EachIsIn-grown, EachIsIn-itself, exponent_low}
 use Rattle.ct_frac.proofs.JoinedFactors.{same_ok, all_greatest_factors}
-use Rattle.ct_poly.proofs.WholeLimits.{whole_ok}
 use Rattle.ct_frac.proofs.NormalLaws.{one_is_den}
 
 -- ---- two denominators

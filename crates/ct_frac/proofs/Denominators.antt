@@ -1,13 +1,8 @@
 -- Lists of factors stay in written form where a factor goes, changes its exponent or comes in, and a denominator in written
 -- form is not zero. Main lemmas `factors-kept` and `den_nonzero`, which the laws on Normal cite.
-use Rattle.std.specs.Prelude.{◌≡◌, ◌≢◌, ℕ, zero, suc, ◌*◌, ◌<◌, ◌≤◌, ℤ, pos, List, [], ◌∷◌, ◌++◌}
-use Rattle.std.proofs.Common.{sym, ◌∙◌, ap, subst, arith}
-use Rattle.std.proofs.lemmas.List.{append-nil, append_assoc}
-use Rattle.ct_algebra.specs.Polynomial.{Polynomial, polys, coefficient, times, degree}
-use Rattle.ct_algebra.specs.Monomial.{unit}
-use Rattle.ct_algebra.specs.Substitution.{number, number_is, number-*}
+use Rattle.ct_frac.proofs.Base.{◌≡◌, ◌≢◌, ℕ, zero, suc, ◌*◌, ◌<◌, ◌≤◌, ℤ, pos, List, [], ◌∷◌, ◌++◌, sym, ◌∙◌, ap, subst, arith, append-nil}
+use Rattle.ct_frac.proofs.Base.{append_assoc, Polynomial, polys, coefficient, times, degree, unit, number, number_is, number-*, largest_degree}
 use Rattle.ct_algebra.proofs.PolynomialLawProofs.{finite_maps, degrees}
-use Rattle.ct_checked.specs.Limits.{largest_degree}
 use Rattle.ct_frac.specs.declared.factor.Factor.{Factor}
 use Rattle.ct_frac.specs.Normal.{with_exponent}
 use Rattle.ct_frac.specs.Written.{Denominator, IsBase, IsFactor, IsBelow, AreFactors, IsDenominator, product_of_factors, multiplied_out}

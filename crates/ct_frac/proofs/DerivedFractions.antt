@@ -1,27 +1,17 @@
 -- A derived fraction has the value that δ of the field gives. Main lemmas `raised_ok` and `delta-value`, which `delta` cites.
 -- With D the denominator, g the product of its factors with the name and D'·g = D·s, the numerator is N'·g less N·s: over D·g
 -- this is (N'·D less N·D') over D², the quotient rule.
-use Rattle.std.specs.Prelude.{◌≡◌, ◌≢◌, refl, ℕ, zero, suc, ◌+◌, pos, Bool, true, false, cond, Ok, Err, List, [], ◌∷◌, ◌++◌, take}
-use Rattle.std.proofs.Common.{sym, ◌∙◌, ap, ap₂, subst, arith}
-use Rattle.ct_algebra.specs.Actions.{Action, Derive, sigma_by, delta_by}
-use Rattle.ct_algebra.specs.Actions as actions
-use Rattle.ct_algebra.specs.Derivative.{derived}
-use Rattle.ct_algebra.specs.Field.{plain, coefficients}
+use Rattle.ct_frac.proofs.Base.{◌≡◌, ◌≢◌, refl, ℕ, zero, suc, ◌+◌, pos, Bool, true, false, cond, Ok, Err, List, [], ◌∷◌, ◌++◌, take, sym, ◌∙◌, ap}
+use Rattle.ct_frac.proofs.Base.{ap₂, subst, arith, Action, Derive, sigma_by, delta_by, derived, plain, coefficients, derived-number, Name, Polynomial}
+use Rattle.ct_frac.proofs.Base.{polys, polys_domain, plus, times, times_assoc, mul_zero, ring2, ring4, ring6, ring8, linear1, reify, number}
+use Rattle.ct_frac.proofs.Base.{fractions, Checked, both_fit, verdict_ok, ◌>>=◌, checked_minus, checked_times, checked_derived}
 use Rattle.ct_algebra.specs.FractionOre.{delta_of, δ_value-value}
-use Rattle.ct_algebra.specs.Laws.Derivations.{derived-number}
-use Rattle.ct_algebra.specs.Names.{Name}
-use Rattle.ct_algebra.specs.Polynomial.{Polynomial, polys, polys_domain, plus, times, times_assoc}
-use Rattle.ct_algebra.specs.Ring.{mul_zero}
-use Rattle.ct_algebra.specs.RingTactic.{ring2, ring4, ring6, ring8, linear1, reify}
-use Rattle.ct_algebra.specs.Substitution.{number}
-use Rattle.ct_algebra.proofs.FieldLawProofs.{fractions}
-use Rattle.ct_checked.specs.Checked.{Checked, both_fit, verdict_ok, ◌>>=◌}
-use Rattle.ct_poly.specs.Measures.{checked_minus, checked_times, checked_derived}
 use Rattle.ct_frac.specs.declared.factor.Factor.{Factor}
 use Rattle.ct_frac.specs.Arithmetic.{checked_exponent}
 use Rattle.ct_frac.specs.Normal.{normal}
 use Rattle.ct_frac.specs.Symbols.{has_name, with_name, checked_once, checked_part, checked_without_parts, checked_raised, checked_delta}
-use Rattle.ct_frac.specs.Written.{Denominator, Written, IsBelow, AreFactors, IsDenominator, IsWritten, power, product_of_factors, multiplied_out, value, value_over}
+use Rattle.ct_frac.specs.Written.{Denominator, Written, IsBelow, AreFactors, IsDenominator, IsWritten, power, product_of_factors, multiplied_out}
+use Rattle.ct_frac.specs.Written.{value, value_over}
 use Rattle.ct_frac.proofs.Clearing.{times_ok}
 use Rattle.ct_frac.proofs.Denominators.{den_nonzero}
 use Rattle.ct_frac.proofs.JoinedFactors.{same_ok}
@@ -31,6 +21,7 @@ use Rattle.ct_frac.proofs.Products.{times_one, one_times}
 use Rattle.ct_frac.proofs.Quotients.{ratio, value_over-ratio}
 use Rattle.ct_frac.proofs.Slopes.{once, once-append, slope, derived-times, product_slope}
 use Rattle.ct_frac.proofs.SumLaws.{minus_ok, minus_is}
+use Rattle.ct_algebra.specs.Actions as actions
 
 -- ---- as the code takes the steps
 

@@ -1,12 +1,8 @@
 -- The exponents of a common denominator are no less than those of the parts. Main lemmas `all_stand` and `all_grow`, which
 -- `wider_ok` cites. A polynomial below a rising list does not stand in it.
-use Rattle.std.specs.Prelude.{◌≡◌, refl, ℕ, ◌≤◌, max, List, [], ◌∷◌}
-use Rattle.std.proofs.Common.{Ordering, Less, Equal, Greater, ◌∙◌, ap, subst, arith}
-use Rattle.std.specs.Ordering.{ordering_reverse}
+use Rattle.ct_frac.proofs.Base.{◌≡◌, refl, ℕ, ◌≤◌, max, List, [], ◌∷◌, Ordering, Less, Equal, Greater, ◌∙◌, ap, subst, arith, ordering_reverse}
+use Rattle.ct_frac.proofs.Base.{Polynomial, by_order, poly_cmp, poly_cmp_total, poly_tied}
 use Rattle.std.proofs.lemmas.Cmp.{tied_itself}
-use Rattle.ct_algebra.specs.Polynomial.{Polynomial}
-use Rattle.ct_algebra.specs.Terms.{by_order}
-use Rattle.ct_poly.specs.Order.{poly_cmp, poly_cmp_total, poly_tied}
 use Rattle.ct_frac.specs.declared.factor.Factor.{Factor}
 use Rattle.ct_frac.specs.Arithmetic.{exponent_in, joined_greatest, all_greatest, EachIsIn}
 use Rattle.ct_frac.specs.Written.{IsBelow, AreFactors}

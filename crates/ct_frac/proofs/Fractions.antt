@@ -1,15 +1,8 @@
 -- What the plainest calls on fractions give: a polynomial as a fraction, and the negative. Main lemmas `whole-value`,
 -- `negative_written` and `negative-value`.
-use Rattle.std.specs.Prelude.{◌≡◌, pos}
-use Rattle.std.proofs.Common.{sym, ◌∙◌, ap, subst}
-use Rattle.std.specs.Int.{IsGcd}
+use Rattle.ct_frac.proofs.Base.{◌≡◌, pos, sym, ◌∙◌, ap, subst, IsGcd, neg_neg, neg_zero, Polynomial, polys, polys_domain, number, one_is, field}
+use Rattle.ct_frac.proofs.Base.{embedded, fractions}
 use Rattle.ct_algebra.specs.Fractions.{embed_is}
-use Rattle.ct_algebra.specs.Group.{neg_neg, neg_zero}
-use Rattle.ct_algebra.specs.Polynomial.{Polynomial, polys, polys_domain}
-use Rattle.ct_algebra.specs.Substitution.{number, one_is}
-use Rattle.ct_algebra.specs.Field.{field}
-use Rattle.ct_algebra.specs.FieldLaws.{embedded}
-use Rattle.ct_algebra.proofs.FieldLawProofs.{fractions}
 use Rattle.ct_frac.specs.FractionLaws.{WrittenValueIsAQuotient}
 use Rattle.ct_frac.specs.Arithmetic.{negative}
 use Rattle.ct_frac.specs.Written.{Written, IsWritten, multiplied_out, value, value_over, one_den, whole_polynomial}

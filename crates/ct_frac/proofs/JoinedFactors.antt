@@ -1,11 +1,7 @@
 -- What joins a rising list leaves it rising; where exponents are added the product is multiplied by the factor's.
 -- Main lemmas `joined_all_ok` for products, `all_greatest_factors` for common denominators.
-use Rattle.std.specs.Prelude.{◌≡◌, refl, ◌+◌, max, Ok, List, [], ◌∷◌}
-use Rattle.std.proofs.Common.{Ordering, Less, Equal, Greater, sym, ◌∙◌, ap, subst, arith}
-use Rattle.ct_algebra.specs.Polynomial.{Polynomial, times, times_assoc}
-use Rattle.ct_algebra.specs.Terms.{by_order}
-use Rattle.ct_checked.specs.Checked.{Checked, ◌>>=◌, both_fit}
-use Rattle.ct_poly.specs.Order.{poly_cmp, poly_tied}
+use Rattle.ct_frac.proofs.Base.{◌≡◌, refl, ◌+◌, max, Ok, List, [], ◌∷◌, Ordering, Less, Equal, Greater, sym, ◌∙◌, ap, subst, arith, Polynomial, times}
+use Rattle.ct_frac.proofs.Base.{times_assoc, by_order, Checked, ◌>>=◌, both_fit, poly_cmp, poly_tied}
 use Rattle.ct_frac.specs.declared.factor.Factor.{Factor}
 use Rattle.ct_frac.specs.Arithmetic.{joined_greatest, all_greatest, checked_exponent, checked_joined, checked_joined_all}
 use Rattle.ct_frac.specs.Written.{IsFactor, IsBelow, AreFactors, power, product_of_factors}

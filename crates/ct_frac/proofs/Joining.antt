@@ -1,11 +1,7 @@
 -- A factor that joins a rising list, by the place where it is found: main lemmas `found_at` and `found_before`, which the
 -- calls `with_greatest` and `joined` cite. The place is counted along the list as it is gone through.
-use Rattle.std.specs.Prelude.{◌≡◌, refl, ℕ, zero, suc, ◌+◌, ◌<◌, ◌≤◌, max, Ok, Err, List, [], ◌∷◌, length}
-use Rattle.std.proofs.Common.{Ordering, Less, Equal, Greater, ◌∙◌, ap, arith, slice_set, slice_index_or}
-use Rattle.std.specs.List.{insert}
-use Rattle.ct_algebra.specs.Terms.{by_order}
-use Rattle.ct_checked.specs.Checked.{Checked, ◌>>=◌}
-use Rattle.ct_poly.specs.Order.{poly_cmp}
+use Rattle.ct_frac.proofs.Base.{◌≡◌, refl, ℕ, zero, suc, ◌+◌, ◌<◌, ◌≤◌, max, Ok, Err, List, [], ◌∷◌, length, Ordering, Less, Equal, Greater, ◌∙◌, ap}
+use Rattle.ct_frac.proofs.Base.{arith, slice_set, slice_index_or, insert, by_order, Checked, ◌>>=◌, poly_cmp}
 use Rattle.ct_frac.specs.declared.factor.Factor.{Factor}
 use Rattle.ct_frac.specs.declared.insertion.Place.TheVariants.{At, Before}
 use Rattle.ct_frac.specs.Arithmetic.{joined_greatest, checked_joined, checked_exponent}

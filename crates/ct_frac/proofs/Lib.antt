@@ -1,3 +1,4 @@
+pub mod Base
 pub mod Quotients
 pub mod Products
 pub mod Denominators

@@ -1,9 +1,7 @@
 -- When an exponent passes its limit. Main lemmas `exponent_fits`, `exponent_passes` and `exponent_ok`, which the calls and the
 -- laws on values cite.
-use Rattle.std.specs.Prelude.{◌≡◌, ℕ, ◌<◌, ◌≤◌, Ok, Err}
-use Rattle.ct_checked.specs.Limits.{largest_degree}
+use Rattle.ct_frac.proofs.Base.{◌≡◌, ℕ, ◌<◌, ◌≤◌, Ok, Err, largest_degree, fits, passes, Kept, kept}
 use Rattle.ct_checked.specs.declared.fault.Kind.TheVariants.{Degree}
-use Rattle.ct_poly.proofs.WholeLimits.{fits, passes, Kept, kept}
 use Rattle.ct_frac.specs.Arithmetic.{checked_exponent}
 
 pub exponent_fits : (n : ℕ) → n ≤ largest_degree → checked_exponent n ≡ Ok n

@@ -1,17 +1,12 @@
 -- The names of a monomial as factors: they are different, and their product is the monomial.
 -- Main lemmas `names_different` and `product_of_factors-names`, which the quotient cites. A name is one term, so all that is asked
 -- of a factor is read off it.
-use Rattle.std.specs.Prelude.{◌≡◌, ◌≢◌, ◌⊎◌, refl, ℕ, zero, suc, ◌+◌, ◌<◌, ◌≤◌, ℤ, pos, false, true, Bool, cond, eqb, ltb, List, [], ◌∷◌}
-use Rattle.std.proofs.Common.{sym, ◌∙◌, ap, ap₂, subst, arith, eqb-true, eq-eqb, inl, inr}
+use Rattle.ct_frac.proofs.Base.{◌≡◌, ◌≢◌, ◌⊎◌, refl, ℕ, zero, suc, ◌+◌, ◌<◌, ◌≤◌, ℤ, pos, false, true, Bool, cond, eqb, ltb, List, [], ◌∷◌, sym, ◌∙◌}
+use Rattle.ct_frac.proofs.Base.{ap, ap₂, subst, arith, eqb-true, eq-eqb, inl, inr, Mono, exp, mono, exp-mono, mono-exp, exp-·, exp-unit, same_mono}
+use Rattle.ct_frac.proofs.Base.{total, unit, ◌·◌, sum_six, Name, name_with, symbol, exp-symbol, Polynomial, polys, times, degree, degree_of, name}
+use Rattle.ct_frac.proofs.Base.{name_is, term, term_is, term-*, one_is, number_is, single, largest_degree, IsContentOf, common_monomial, is_negative}
+use Rattle.ct_frac.proofs.Base.{leads_below_zero, least_exp, content_only}
 use Rattle.std.proofs.lemmas.Bool.{ne_eqb, lt-ltb, le-ltb, cases_order}
-use Rattle.ct_algebra.specs.Monomial.{Mono, exp, mono, exp-mono, mono-exp, exp-·, exp-unit, same_mono, total, unit, ◌·◌, sum_six}
-use Rattle.ct_algebra.specs.Names.{Name, name_with, symbol, exp-symbol}
-use Rattle.ct_algebra.specs.Polynomial.{Polynomial, polys, times, degree, degree_of}
-use Rattle.ct_algebra.specs.Substitution.{name, name_is, term, term_is, term-*, one_is, number_is}
-use Rattle.ct_algebra.specs.Sums.{single}
-use Rattle.ct_checked.specs.Limits.{largest_degree}
-use Rattle.ct_poly.specs.Content.{IsContentOf, common_monomial, is_negative, leads_below_zero, least_exp}
-use Rattle.ct_poly.proofs.Contents.{content_only}
 use Rattle.ct_poly.proofs.TermLists.{place-name_with}
 use Rattle.ct_frac.specs.Normal.{with_exponent, names_from}
 use Rattle.ct_frac.specs.Written.{IsBase, power, product_of_factors}

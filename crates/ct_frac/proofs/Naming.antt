@@ -1,14 +1,7 @@
 -- Steps of putting names and factors into a rising list, as the code takes them. Main lemmas `sorted_onto_both`,
 -- `naming_more` and `insert_place`, which the loops of the quotient and of `insert` cite.
-use Rattle.std.specs.Prelude.{◌≡◌, refl, ℕ, zero, suc, ◌+◌, ◌-◌, ◌<◌, List, [], ◌∷◌, ◌++◌}
-use Rattle.std.proofs.Common.{Ordering, Less, Equal, Greater, sym, ◌∙◌, ap, ap₂, arith}
-use Rattle.std.specs.List.{insert}
-use Rattle.ct_algebra.specs.Monomial.{Mono, exp}
-use Rattle.ct_algebra.specs.Names.{name_with}
-use Rattle.ct_algebra.specs.Polynomial.{Polynomial}
-use Rattle.ct_algebra.specs.Substitution.{name}
-use Rattle.ct_algebra.specs.Terms.{by_order}
-use Rattle.ct_poly.specs.Order.{poly_cmp}
+use Rattle.ct_frac.proofs.Base.{◌≡◌, refl, ℕ, zero, suc, ◌+◌, ◌-◌, ◌<◌, List, [], ◌∷◌, ◌++◌, Ordering, Less, Equal, Greater, sym, ◌∙◌, ap, ap₂, arith}
+use Rattle.ct_frac.proofs.Base.{insert, Mono, exp, name_with, Polynomial, name, by_order, poly_cmp}
 use Rattle.ct_frac.specs.declared.factor.Factor.{Factor}
 use Rattle.ct_frac.specs.Code.{place_in}
 use Rattle.ct_frac.specs.Normal.{inserted, names_from, sorted_onto, with_exponent}

@@ -2,28 +2,22 @@
 -- answers a fraction cites, and `divided_out_is`, which a law cites.
 -- Dividing a factor out as many times as possible takes one power from the numerator and from the factor; so the cross
 -- products stay equal. What is left has no common divisor, since a further one would divide the greatest.
-use Rattle.std.specs.Prelude.{◌≡◌, ◌≢◌, refl, ℕ, zero, suc, ◌*◌, ◌/◌, ◌<◌, pos, Bool, true, false, cond, None, Some, List, [], ◌∷◌, ◌++◌}
-use Rattle.std.proofs.Common.{Option, inl, inr, sym, ◌∙◌, ap, subst, arith}
-use Rattle.std.specs.Int.{◌∣◌, IsGcd}
-use Rattle.std.proofs.lemmas.List.{append-nil}
-use Rattle.std.proofs.lemmas.Nat.Gcd.{dvd_refl}
-use Rattle.std.proofs.Math.Nat.{div-le_self, div-mul_cancel, dvd_of_mul-dvd-mul_right, mul-dvd-mul_right, one-mul, one-dvd, pos_of_ne-zero, eq-zero_of_zero-dvd}
+use Rattle.ct_frac.proofs.Base.{◌≡◌, ◌≢◌, refl, ℕ, zero, suc, ◌*◌, ◌/◌, ◌<◌, pos, Bool, true, false, cond, None, Some, List, [], ◌∷◌, ◌++◌, Option}
+use Rattle.ct_frac.proofs.Base.{inl, inr, sym, ◌∙◌, ap, subst, arith, ◌∣◌, IsGcd, append-nil, dvd_refl, div-le_self, div-mul_cancel}
+use Rattle.ct_frac.proofs.Base.{dvd_of_mul-dvd-mul_right, mul-dvd-mul_right, one-mul, one-dvd, pos_of_ne-zero, eq-zero_of_zero-dvd, unit, Polynomial}
+use Rattle.ct_frac.proofs.Base.{polys, polys_domain, times, times_assoc, zero_mul, number, content, divided, greatest_common}
 use Rattle.ct_algebra.specs.Domain.{zero_factor}
-use Rattle.ct_algebra.specs.Monomial.{unit}
-use Rattle.ct_algebra.specs.Polynomial.{Polynomial, polys, polys_domain, times, times_assoc}
-use Rattle.ct_algebra.specs.Ring.{zero_mul}
-use Rattle.ct_algebra.specs.Substitution.{number}
-use Rattle.ct_poly.specs.Content.{content, divided}
 use Rattle.ct_poly.specs.Division.{quotient}
 use Rattle.ct_poly.proofs.DivisionLaws.{quotient_is}
 use Rattle.ct_frac.specs.declared.factor.Factor.{Factor}
-use Rattle.ct_int.specs.Divisors.{greatest_common}
 use Rattle.ct_frac.specs.FractionLaws.{IsDividedOut, FactorsAreDividedOut}
 use Rattle.ct_frac.specs.Normal.{on_quotient, divided_out, with_exponent, Lowered, lowered, cancelled, in_lowest_terms, normal}
-use Rattle.ct_frac.specs.Written.{Denominator, Written, AreFactors, IsDenominator, IsWritten, power, product_of_factors, multiplied_out, value, value_over, one_den, whole_polynomial}
+use Rattle.ct_frac.specs.Written.{Denominator, Written, AreFactors, IsDenominator, IsWritten, power, product_of_factors, multiplied_out, value}
+use Rattle.ct_frac.specs.Written.{value_over, one_den, whole_polynomial}
 use Rattle.ct_int.proofs.CommonDivisors.{greatest_common_is, greatest_common_only}
 use Rattle.ct_frac.proofs.Denominators.{factors-kept, number-product, den_nonzero}
-use Rattle.ct_frac.proofs.Products.{times_comm, times_one, one_times, times_left_comm, power-sum, product_of_factors-append, product_of_factors-with_exponent}
+use Rattle.ct_frac.proofs.Products.{times_comm, times_one, one_times, times_left_comm, power-sum, product_of_factors-append}
+use Rattle.ct_frac.proofs.Products.{product_of_factors-with_exponent}
 use Rattle.ct_frac.proofs.Quotients.{same_over}
 use Rattle.ct_frac.proofs.WholeParts.{part_whole, content_of_part}
 

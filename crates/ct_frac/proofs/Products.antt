@@ -1,11 +1,8 @@
 -- The products of lists of factors: what appending, putting in and joining make of them, and that they are not zero.
 -- Main lemmas: `product_of_factors-append`, `product_of_factors-inserted`, `product_of_factors-sorted_onto` and `product_nonzero`, which the laws on
 -- values cite.
-use Rattle.std.specs.Prelude.{◌≡◌, ◌≢◌, refl, ℕ, zero, suc, ◌+◌, List, [], ◌∷◌, ◌++◌}
-use Rattle.std.proofs.Common.{Ordering, Less, Equal, Greater, sym, ◌∙◌, ap, arith}
-use Rattle.ct_algebra.specs.Terms.{by_order}
-use Rattle.ct_algebra.specs.Polynomial.{Polynomial, polys, polys_domain, times, times_assoc}
-use Rattle.ct_poly.specs.Order.{poly_cmp}
+use Rattle.ct_frac.proofs.Base.{◌≡◌, ◌≢◌, refl, ℕ, zero, suc, ◌+◌, List, [], ◌∷◌, ◌++◌, Ordering, Less, Equal, Greater, sym, ◌∙◌, ap, arith, by_order}
+use Rattle.ct_frac.proofs.Base.{Polynomial, polys, polys_domain, times, times_assoc, poly_cmp}
 use Rattle.ct_frac.specs.declared.factor.Factor.{Factor}
 use Rattle.ct_frac.specs.Normal.{inserted, sorted_onto, with_exponent}
 use Rattle.ct_frac.specs.Written.{power, product_of_factors}

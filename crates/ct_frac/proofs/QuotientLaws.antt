@@ -2,27 +2,14 @@
 -- and `quotient_of-value`, which `Frac::quotient` cites.
 -- The factors of the divisor are the names of its common monomial and its primitive part: times its content they are the
 -- divisor, but for the sign.
-use Rattle.std.specs.Prelude.{◌≡◌, ◌≢◌, refl, ℕ, ◌+◌, ◌<◌, ◌≤◌, ℤ, pos, negsuc, neg_ℤ, unsigned_abs, Bool, true, false, cond, eqb, List, [], ◌∷◌, ◌++◌}
-use Rattle.std.proofs.Common.{sym, ◌∙◌, ap, ap₂, subst, arith, Less, Equal}
-use Rattle.std.specs.Int.{◌∣◌}
+use Rattle.ct_frac.proofs.Base.{◌≡◌, ◌≢◌, refl, ℕ, ◌+◌, ◌<◌, ◌≤◌, ℤ, pos, negsuc, neg_ℤ, unsigned_abs, Bool, true, false, cond, eqb, List, [], ◌∷◌}
+use Rattle.ct_frac.proofs.Base.{◌++◌, sym, ◌∙◌, ap, ap₂, subst, arith, Less, Equal, ◌∣◌, append-nil, dvd_refl, eq-one_of_dvd-one, pos_of_ne-zero}
+use Rattle.ct_frac.proofs.Base.{neg_unique, less_is, Mono, monomials, mono_cmp, mono_same, exp-unit, same_mono, total, unit, Polynomial, polys, times}
+use Rattle.ct_frac.proofs.Base.{times_assoc, degree, degree_greatest, norm, ring2, reify, term, term_is, number, number-*, number_is, one_is}
+use Rattle.ct_frac.proofs.Base.{term-sum, zero_mul, one_mul, same_terms, single, none_of, has_none, EachTerm, IsCanonical, int_group, largest_degree}
+use Rattle.ct_frac.proofs.Base.{largest_norm, DividesAll, content, common_monomial, is_negative, leads_below_zero, signed_content, signed}
+use Rattle.ct_frac.proofs.Base.{primitive_part, content_is, content_small}
 use Rattle.std.proofs.lemmas.Bool.{eqb-true, eqb-false}
-use Rattle.std.proofs.lemmas.List.{append-nil}
-use Rattle.std.proofs.lemmas.Nat.Gcd.{dvd_refl}
-use Rattle.std.proofs.Math.Nat.{eq-one_of_dvd-one, pos_of_ne-zero}
-use Rattle.ct_algebra.specs.Group.{neg_unique}
-use Rattle.ct_algebra.specs.Laws.Terms.{less_is}
-use Rattle.ct_algebra.specs.Monomial.{Mono, monomials, mono_cmp, mono_same, exp-unit, same_mono, total, unit}
-use Rattle.ct_algebra.specs.Polynomial.{Polynomial, polys, times, times_assoc, degree, degree_greatest, norm}
-use Rattle.ct_algebra.specs.RingTactic.{ring2, reify}
-use Rattle.ct_algebra.specs.Substitution.{term, term_is, number, number-*, number_is, one_is, term-sum}
-use Rattle.ct_algebra.specs.Substitution as substitution
-use Rattle.ct_algebra.specs.Ring.{zero_mul, one_mul}
-use Rattle.ct_algebra.specs.Sums.{same_terms, single, none_of, has_none}
-use Rattle.ct_algebra.specs.Terms.{EachTerm, IsCanonical}
-use Rattle.ct_algebra.specs.WholeNumbers.{int_group}
-use Rattle.ct_checked.specs.Limits.{largest_degree, largest_norm}
-use Rattle.ct_poly.specs.Content.{DividesAll, content, common_monomial, is_negative, leads_below_zero, signed_content, signed, primitive_part}
-use Rattle.ct_poly.proofs.Contents.{content_is}
 use Rattle.ct_poly.proofs.PrimitiveParts.{part_whole, part_primitive}
 use Rattle.ct_frac.specs.declared.factor.Factor.{Factor}
 use Rattle.ct_frac.specs.Normal.{normal, names_from, sorted_onto, unless_constant, factors_of, with_sign_of, quotient_of}
@@ -32,8 +19,8 @@ use Rattle.ct_frac.proofs.NameFactors.{IsBounded, names_different, differs_from_
 use Rattle.ct_frac.proofs.NormalLaws.{normal-value}
 use Rattle.ct_frac.proofs.Products.{times_comm, times_one, product_of_factors-append, product_of_factors-sorted_onto, one_times}
 use Rattle.ct_frac.proofs.Quotients.{same_over}
-use Rattle.ct_poly.proofs.Contents.{content_small}
 use Rattle.ct_frac.proofs.Sorting.{DiffersFrom, AreDifferent, AreApart, sorted_factors, apart_from_none, AreDifferent-append}
+use Rattle.ct_algebra.specs.Substitution as substitution
 
 -- ---- a constant primitive part is 1
 

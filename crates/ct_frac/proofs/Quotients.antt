@@ -1,16 +1,11 @@
 -- A polynomial over another as a value of the field: equal cross products, sums, products and negatives.
 -- Main lemmas `same_over`, `over-sum`, `over-product`, `over-negative` and `over_zero`, which every law on values cites.
 -- Where the divisor is not zero this is the value of the ratio, and the laws are those of ratios.
-use Rattle.std.specs.Prelude.{◌≡◌, ◌≢◌}
-use Rattle.std.proofs.Common.{sym, ◌∙◌, ap, ap₂}
+use Rattle.ct_frac.proofs.Base.{◌≡◌, ◌≢◌, sym, ◌∙◌, ap, ap₂, Polynomial, polys, polys_domain, plus, times, field, embedded, value_of, fractions}
 use Rattle.ct_algebra.specs.Domain.{product_nonzero}
 use Rattle.ct_algebra.specs.Fractions.{Ratio, value-sum, value-product, value-negation}
 use Rattle.ct_algebra.specs.FractionRing.{num_zero}
 use Rattle.ct_algebra.specs.Division.{over, over-product, embed_nonzero}
-use Rattle.ct_algebra.specs.Polynomial.{Polynomial, polys, polys_domain, plus, times}
-use Rattle.ct_algebra.specs.Field.{field}
-use Rattle.ct_algebra.specs.FieldLaws.{embedded, value_of}
-use Rattle.ct_algebra.proofs.FieldLawProofs.{fractions}
 use Rattle.ct_frac.specs.Written.{value_over}
 
 abbrev pub ratio : (n d : Polynomial) → d ≢ polys.zero → Ratio polys

@@ -2,23 +2,11 @@
 -- and `sigma-value`, which `sigma` cites.
 -- Shifted factors are factors, since the shift keeps what makes them so, and differ, since it is injective; so they can be
 -- sorted anew.
-use Rattle.std.specs.Prelude.{◌≡◌, refl, ℕ, zero, suc, ◌<◌, ℤ, pos, Option, Some, Ok, List, [], ◌∷◌}
-use Rattle.std.proofs.Common.{Less, sym, ◌∙◌, ap, ap₂, subst}
-use Rattle.std.specs.Int.{IsGcd}
-use Rattle.ct_algebra.specs.Actions.{Action, Shift, sigma, sigma_by}
-use Rattle.ct_algebra.specs.Actions as actions
-use Rattle.ct_algebra.specs.Field.{plain, coefficients}
+use Rattle.ct_frac.proofs.Base.{◌≡◌, refl, ℕ, zero, suc, ◌<◌, ℤ, pos, Option, Some, Ok, List, [], ◌∷◌, Less, sym, ◌∙◌, ap, ap₂, subst, IsGcd, Action}
+use Rattle.ct_frac.proofs.Base.{Shift, sigma, sigma_by, plain, coefficients, leading, Mono, total, Name, Polynomial, polys, polys_domain, times}
+use Rattle.ct_frac.proofs.Base.{degree, degree_of, number, one_is, shift_ring_hom, fractions, both_fit, verdict_ok, content, is_negative}
+use Rattle.ct_frac.proofs.Base.{leads_below_zero, is_below_zero, checked_shifted, shifted, steps, poly_cmp}
 use Rattle.ct_algebra.specs.FractionOre.{sigma_of, σ_value-value}
-use Rattle.ct_algebra.specs.Leading.{leading}
-use Rattle.ct_algebra.specs.Monomial.{Mono, total}
-use Rattle.ct_algebra.specs.Names.{Name}
-use Rattle.ct_algebra.specs.Polynomial.{Polynomial, polys, polys_domain, times, degree, degree_of}
-use Rattle.ct_algebra.specs.Substitution.{number, one_is, shift_ring_hom}
-use Rattle.ct_algebra.proofs.FieldLawProofs.{fractions}
-use Rattle.ct_checked.specs.Checked.{both_fit, verdict_ok}
-use Rattle.ct_poly.specs.Content.{content, is_negative, leads_below_zero, is_below_zero}
-use Rattle.ct_poly.specs.Measures.{checked_shifted, shifted, steps}
-use Rattle.ct_poly.specs.Order.{poly_cmp}
 use Rattle.ct_poly.proofs.ShiftValues.{shifted-zero}
 use Rattle.ct_frac.specs.declared.factor.Factor.{Factor}
 use Rattle.ct_frac.specs.Normal.{inserted, sorted_onto}
@@ -31,6 +19,7 @@ use Rattle.ct_frac.proofs.Products.{one_times, product_of_factors-sorted_onto}
 use Rattle.ct_frac.proofs.Quotients.{ratio, value_over-ratio}
 use Rattle.ct_frac.proofs.ShiftedTerms.{shift_leads, shift_injective, content-shift}
 use Rattle.ct_frac.proofs.Sorting.{DiffersFrom, AreDifferent, sorted_factors, apart_from_none}
+use Rattle.ct_algebra.specs.Actions as actions
 
 -- ---- what a leading term tells
 

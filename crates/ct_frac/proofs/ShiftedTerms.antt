@@ -2,30 +2,17 @@
 -- `shift_leads`, `content-shift` and `shift_injective`, which ShiftedFactors cites.
 -- A shifted monomial is itself and lower ones, by induction over products of names; so the first term stays the first. A
 -- number that divides each coefficient is a factor that the shift leaves as it is.
-use Rattle.std.specs.Prelude.{◌≡◌, ◌≢◌, refl, ℕ, zero, suc, ℤ, pos, ◌+ℤ◌, ◌*ℤ◌, neg_ℤ, unsigned_abs, T, Some, List, [], ◌∷◌}
-use Rattle.std.proofs.Common.{Less, sym, ◌∙◌, ap, ap₂, subst}
-use Rattle.std.specs.Int.{◌∣◌}
-use Rattle.std.proofs.lemmas.Int.{unsigned_abs-mul}
-use Rattle.std.proofs.lemmas.Nat.Gcd.{dvd_refl, dvd_antisymm}
-use Rattle.std.proofs.Math.Nat.{dvd-mul_right}
-use Rattle.ct_algebra.specs.Derivative.{zero_term}
-use Rattle.ct_algebra.specs.Group.{hom_zero}
+use Rattle.ct_frac.proofs.Base.{◌≡◌, ◌≢◌, refl, ℕ, zero, suc, ℤ, pos, ◌+ℤ◌, ◌*ℤ◌, neg_ℤ, unsigned_abs, T, Some, List, [], ◌∷◌, Less, sym, ◌∙◌, ap}
+use Rattle.ct_frac.proofs.Base.{ap₂, subst, ◌∣◌, unsigned_abs-mul, dvd_refl, dvd_antisymm, dvd-mul_right, zero_term, hom_zero, at_below, at_head}
+use Rattle.ct_frac.proofs.Base.{not_zero, less_is, AllBelow_trans, leading, Leads, Mono, monomials, mono, mono_cmp, graded, unit, ◌·◌, ·_comm, ·-unit}
+use Rattle.ct_frac.proofs.Base.{Name, x0, x1, x2, x3, x4, x5, symbol, by_symbols, Polynomial, polys, poly_of, plus, plus_is, times, times_is}
+use Rattle.ct_frac.proofs.Base.{terms-poly_of, zero_mul, P, term, term_is, name, name_is, number, number_is, number-*, times_one, symbol_term, shift}
+use Rattle.ct_frac.proofs.Base.{shift_ring_hom, shift-name, at, at-⊕, none, EachTerm-single, AllBelow, IsCanonical, EachTerm, is_less, value_at}
+use Rattle.ct_frac.proofs.Base.{int_group, plus_zero, DividesAll, content, divided, content_is}
 use Rattle.ct_algebra.specs.Laws.ShiftInverse.{shift_back}
-use Rattle.ct_algebra.specs.Laws.Terms.{at_below, at_head, not_zero, less_is, AllBelow_trans}
-use Rattle.ct_algebra.specs.Leading.{leading, Leads}
-use Rattle.ct_algebra.specs.Monomial.{Mono, monomials, mono, mono_cmp, graded, unit, ◌·◌, ·_comm, ·-unit}
-use Rattle.ct_algebra.specs.Names.{Name, x0, x1, x2, x3, x4, x5, symbol, by_symbols}
-use Rattle.ct_algebra.specs.Polynomial.{Polynomial, polys, poly_of, plus, plus_is, times, times_is, terms-poly_of}
-use Rattle.ct_algebra.specs.Ring.{zero_mul}
-use Rattle.ct_algebra.specs.Substitution.{P, term, term_is, name, name_is, number, number_is, number-*, times_one, symbol_term, shift, shift_ring_hom, shift-name}
-use Rattle.ct_algebra.specs.Sums.{at, at-⊕, none, EachTerm-single}
-use Rattle.ct_algebra.specs.Terms.{AllBelow, IsCanonical, EachTerm, is_less, value_at}
-use Rattle.ct_algebra.specs.WholeNumbers.{int_group, plus_zero}
 use Rattle.ct_algebra.proofs.LeadingTerms.{leads_of, leading-Leads, Leads-leading}
 use Rattle.ct_algebra.proofs.PolynomialLawProofs.{sums_of_terms}
 use Rattle.ct_algebra.proofs.TermLists.{row_of}
-use Rattle.ct_poly.specs.Content.{DividesAll, content, divided}
-use Rattle.ct_poly.proofs.Contents.{content_is}
 use Rattle.ct_poly.proofs.ProductLeads.{product_leads, all_below}
 use Rattle.ct_poly.proofs.TermLists.{rebuilt, poly_of-single, terms-multiple, nonzero_coef}
 use Rattle.ct_frac.proofs.WholeParts.{part_whole}

@@ -1,21 +1,12 @@
 -- The derivative of a product of powers of factors. Main lemma `product_slope`, which DerivedFractions cites.
 -- Times the product of the factors with the name, each taken once, it is the product itself times the sum over these factors
 -- of exponent, derivative and all others: by induction over the powers, and over the list.
-use Rattle.std.specs.Prelude.{◌≡◌, refl, ℕ, zero, suc, ◌≤◌, pos, ◌+ℤ◌, Bool, true, false, cond, ltb, ◌||◌, ℤ, List, [], ◌∷◌, ◌++◌}
-use Rattle.std.proofs.Common.{sym, ◌∙◌, ap, ap₂, arith}
-use Rattle.std.specs.List.{list_any}
+use Rattle.ct_frac.proofs.Base.{◌≡◌, refl, ℕ, zero, suc, ◌≤◌, pos, ◌+ℤ◌, Bool, true, false, cond, ltb, ◌||◌, ℤ, List, [], ◌∷◌, ◌++◌, sym, ◌∙◌, ap}
+use Rattle.ct_frac.proofs.Base.{ap₂, arith, list_any, ints, derived, derived-*, zero_term, derived-number, Mono, exp, unit, Name, place, Polynomial}
+use Rattle.ct_frac.proofs.Base.{polys, plus, times, times_assoc, zero_mul, mul_zero, ring4, ring5, ring6, ring8, linear1, reify, number, number_is}
+use Rattle.ct_frac.proofs.Base.{number-sum, one_is, EachTerm}
 use Rattle.std.proofs.lemmas.Bool.{ltb-false}
-use Rattle.std.proofs.lemmas.Int.{ints}
-use Rattle.ct_algebra.specs.Derivative.{derived, derived-*, zero_term}
 use Rattle.ct_algebra.specs.FreeOf.{IsWithout}
-use Rattle.ct_algebra.specs.Laws.Derivations.{derived-number}
-use Rattle.ct_algebra.specs.Monomial.{Mono, exp, unit}
-use Rattle.ct_algebra.specs.Names.{Name, place}
-use Rattle.ct_algebra.specs.Polynomial.{Polynomial, polys, plus, times, times_assoc}
-use Rattle.ct_algebra.specs.Ring.{zero_mul, mul_zero}
-use Rattle.ct_algebra.specs.RingTactic.{ring4, ring5, ring6, ring8, linear1, reify}
-use Rattle.ct_algebra.specs.Substitution.{number, number_is, number-sum, one_is}
-use Rattle.ct_algebra.specs.Terms.{EachTerm}
 use Rattle.ct_algebra.proofs.FreeOfLaws.{derived-free}
 use Rattle.ct_frac.specs.declared.factor.Factor.{Factor}
 use Rattle.ct_frac.specs.Symbols.{has_name, with_name}

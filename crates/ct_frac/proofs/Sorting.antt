@@ -1,11 +1,7 @@
 -- Different factors put into a rising list make a rising list. Main lemmas `inserted_factors` and `sorted_factors`, which the
 -- quotient and the shift cite. The order is total and ties only the same polynomial.
-use Rattle.std.specs.Prelude.{◌≡◌, ◌≢◌, refl, List, [], ◌∷◌, ◌++◌}
-use Rattle.std.proofs.Common.{Ordering, Less, Equal, Greater, sym, ◌∙◌, ap}
-use Rattle.std.specs.Ordering.{ordering_reverse}
-use Rattle.ct_algebra.specs.Polynomial.{Polynomial}
-use Rattle.ct_algebra.specs.Terms.{by_order}
-use Rattle.ct_poly.specs.Order.{poly_cmp, poly_cmp_total, poly_tied}
+use Rattle.ct_frac.proofs.Base.{◌≡◌, ◌≢◌, refl, List, [], ◌∷◌, ◌++◌, Ordering, Less, Equal, Greater, sym, ◌∙◌, ap, ordering_reverse, Polynomial}
+use Rattle.ct_frac.proofs.Base.{by_order, poly_cmp, poly_cmp_total, poly_tied}
 use Rattle.ct_frac.specs.declared.factor.Factor.{Factor}
 use Rattle.ct_frac.specs.Normal.{inserted, sorted_onto}
 use Rattle.ct_frac.specs.Written.{IsFactor, IsBelow, AreFactors}

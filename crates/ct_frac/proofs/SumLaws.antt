@@ -1,29 +1,21 @@
 -- Sums, differences and products of written fractions have the values of the field operations. Main lemmas `sum-value`,
 -- `difference-value`, `product-value` and `same_value_is`, which the calls of `Frac` cite.
 -- Each numerator is cleared to the common denominator, so the cross products of the sum are equal.
-use Rattle.std.specs.Prelude.{◌≡◌, ◌≢◌, refl, ℕ, ◌*◌, ◌≤◌, pos, Bool, true, false, cond, ◌||◌, Ok, Err, List, [], ◌∷◌, ◌↔◌, IfOk}
-use Rattle.std.proofs.Common.{Result, sym, ◌∙◌, ap, ap₂, subst, arith, IsTrue}
-use Rattle.std.proofs.Math.Nat.{le-mul_of_pos_right}
-use Rattle.std.proofs.lemmas.Grind.{common_steps}
-use Rattle.ct_algebra.specs.Polynomial.{Polynomial, polys, polys_domain, plus, times, times_assoc}
-use Rattle.ct_algebra.specs.Ring.{zero_mul, mul_zero, neg_mul}
-use Rattle.ct_algebra.specs.Group.{neg_neg, neg_unique}
-use Rattle.ct_algebra.specs.RingTactic.{ring4, ring5, reify}
-use Rattle.ct_algebra.specs.Substitution.{number}
-use Rattle.ct_algebra.specs.Field.{K, field}
-use Rattle.ct_checked.specs.Checked.{Checked, Answers, both_fit, verdict_ok}
+use Rattle.ct_frac.proofs.Base.{◌≡◌, ◌≢◌, refl, ℕ, ◌*◌, ◌≤◌, pos, Bool, true, false, cond, ◌||◌, Ok, Err, List, [], ◌∷◌, ◌↔◌, IfOk, Result, sym, ◌∙◌}
+use Rattle.ct_frac.proofs.Base.{ap, ap₂, subst, arith, IsTrue, le-mul_of_pos_right, common_steps, Polynomial, polys, polys_domain, plus, times}
+use Rattle.ct_frac.proofs.Base.{times_assoc, zero_mul, mul_zero, neg_mul, neg_neg, neg_unique, ring4, ring5, reify, number, K, field, Checked}
+use Rattle.ct_frac.proofs.Base.{Answers, both_fit, verdict_ok, checked_plus, checked_minus, checked_times, minus, checked_whole, whole_ok}
 use Rattle.ct_checked.specs.declared.fault.Fault.{Fault}
-use Rattle.ct_poly.specs.Measures.{checked_plus, checked_minus, checked_times, minus}
 use Rattle.ct_frac.specs.declared.factor.Factor.{Factor}
-use Rattle.ct_poly.specs.Wholes.{checked_whole}
-use Rattle.ct_frac.specs.Arithmetic.{DividesFactors, checked_joined_all, checked_common, checked_cleared, checked_fraction_sum, checked_fraction_difference, checked_full_product, checked_fraction_product, checked_same_value}
+use Rattle.ct_frac.specs.Arithmetic.{DividesFactors, checked_joined_all, checked_common, checked_cleared, checked_fraction_sum}
+use Rattle.ct_frac.specs.Arithmetic.{checked_fraction_difference, checked_full_product, checked_fraction_product, checked_same_value}
 use Rattle.ct_frac.specs.Normal.{normal}
-use Rattle.ct_frac.specs.Written.{Denominator, Written, IsDenominator, IsWritten, product_of_factors, multiplied_out, value, value_over, one_den, whole_polynomial}
+use Rattle.ct_frac.specs.Written.{Denominator, Written, IsDenominator, IsWritten, product_of_factors, multiplied_out, value, value_over, one_den}
+use Rattle.ct_frac.specs.Written.{whole_polynomial}
 use Rattle.ct_frac.proofs.Clearing.{times_ok, cleared_ok}
 use Rattle.ct_frac.proofs.CommonDenominators.{common_divided}
 use Rattle.ct_frac.proofs.Denominators.{den_nonzero, number-product}
 use Rattle.ct_frac.proofs.JoinedFactors.{same_ok, joined_all_ok}
-use Rattle.ct_poly.proofs.WholeLimits.{whole_ok}
 use Rattle.ct_frac.proofs.NormalLaws.{normal_written, normal-value, one_is_den, whole_written}
 use Rattle.ct_frac.proofs.Products.{times_left_comm}
 use Rattle.ct_frac.proofs.Quotients.{same_over, over-sum, over-times, over-negative, over_zero, times_nonzero}

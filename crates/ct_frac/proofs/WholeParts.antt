@@ -1,21 +1,11 @@
 -- A polynomial over a whole number that divides each coefficient: times the number it is the polynomial, and its content
 -- times the number divides the content. Main lemmas `part_whole` and `content_of_part`, which Normal cites.
-use Rattle.std.specs.Prelude.{◌≡◌, refl, ℕ, zero, suc, ◌*◌, ℤ, pos, negsuc, ◌*ℤ◌, int_div, unsigned_abs, true, false, cond, T, List, [], ◌∷◌, map}
-use Rattle.std.proofs.Common.{Ordering, Less, Equal, Greater, sym, ◌∙◌, ap, ap₂, subst}
-use Rattle.std.specs.Int.{◌∣◌}
-use Rattle.std.proofs.lemmas.Int.{unsigned_abs-mul}
-use Rattle.std.proofs.Math.Nat.{mul-dvd-mul_right}
-use Rattle.ct_algebra.specs.Monomial.{Mono, monomials, mono_cmp, unit}
-use Rattle.ct_algebra.specs.Polynomial.{Polynomial, polys, times}
-use Rattle.ct_algebra.specs.Substitution.{number, number_is}
-use Rattle.ct_algebra.specs.Terms.{AllBelow, EachTerm, IsCanonical, by_order, pick, value_at}
-use Rattle.ct_algebra.specs.WholeNumbers.{int_group, int_is_zero}
-use Rattle.ct_algebra.specs.Sums.{at, at-negated}
-use Rattle.ct_algebra.specs.Group.{neg_sum, neg_zero}
-use Rattle.ct_algebra.specs.Laws.Terms.{same_list}
-use Rattle.ct_poly.specs.Content.{DividesAll, TermDivides, content, divided}
+use Rattle.ct_frac.proofs.Base.{◌≡◌, refl, ℕ, zero, suc, ◌*◌, ℤ, pos, negsuc, ◌*ℤ◌, int_div, unsigned_abs, true, false, cond, T, List, [], ◌∷◌, map}
+use Rattle.ct_frac.proofs.Base.{Ordering, Less, Equal, Greater, sym, ◌∙◌, ap, ap₂, subst, ◌∣◌, unsigned_abs-mul, mul-dvd-mul_right, Mono, monomials}
+use Rattle.ct_frac.proofs.Base.{mono_cmp, unit, Polynomial, polys, times, number, number_is, AllBelow, EachTerm, IsCanonical, by_order, pick}
+use Rattle.ct_frac.proofs.Base.{value_at, int_group, int_is_zero, at, at-negated, neg_sum, neg_zero, same_list, DividesAll, TermDivides, content}
+use Rattle.ct_frac.proofs.Base.{divided, content_is, content_only}
 use Rattle.ct_poly.proofs.WholeDivisors.{each_divides}
-use Rattle.ct_poly.proofs.Contents.{content_is, content_only}
 use Rattle.ct_poly.proofs.DividedTerms.{quotients, divisor_nonzero, divided_whole, divided_terms}
 use Rattle.ct_poly.proofs.WholeQuotients.{int_div-*}
 

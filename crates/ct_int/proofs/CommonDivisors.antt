@@ -1,11 +1,9 @@
 -- The greatest number that divides two is their greatest common divisor: main lemma `greatest_common_is`, which the law
 -- cites. A greatest common divisor exists; it is the greatest of the common divisors.
-use Rattle.std.specs.Prelude.{◌≡◌, refl, ℕ, zero, suc, ◌%◌, ◌<◌, ◌≤◌, Bool, true, false, cond, eqb, ◌&&◌}
-use Rattle.std.proofs.Common.{subst, arith, eqb-true}
+use Rattle.ct_int.proofs.Base.{◌≡◌, ℕ, zero, suc, ◌%◌, ◌<◌, ◌≤◌, Bool, true, false, cond, eqb, ◌&&◌, subst, arith, eqb-true, ◌∣◌, IsGcd, le_of_dvd}
+use Rattle.ct_int.proofs.Base.{dvd_of_mod-eq-zero, mod-eq-zero_of_dvd, same_from_IsGcd, eq-zero_of_zero-dvd, one-dvd, pos_of_ne-zero}
+use Rattle.std.specs.Prelude.{refl}
 use Rattle.std.proofs.lemmas.Bool.{eqb-false}
-use Rattle.std.specs.Int.{◌∣◌, IsGcd}
-use Rattle.std.proofs.lemmas.Nat.Gcd.{le_of_dvd, dvd_of_mod-eq-zero, mod-eq-zero_of_dvd, same_from_IsGcd}
-use Rattle.std.proofs.Math.Nat.{eq-zero_of_zero-dvd, one-dvd, pos_of_ne-zero}
 use Rattle.ct_int.proofs.GcdLaws.{gcd-exists}
 use Rattle.ct_int.specs.Divisors.{common_up_to, greatest_common}
 

@@ -1,11 +1,8 @@
 -- The least common multiple of two numbers. Main lemmas: `least_common_least`, which the law `least_common_is_least` cites, and
 -- `least_common_is`, that of positive numbers is positive, for the crates above.
 -- With m = x·g, c = y·g and g the greatest common divisor it is x·c; where m divides k·c, x divides k, since x and y are coprime.
-use Rattle.std.specs.Prelude.{◌≡◌, ℕ, zero, suc, ◌*◌, ◌/◌, ◌<◌}
-use Rattle.std.proofs.Common.{sym, ◌∙◌, ap, subst, arith}
-use Rattle.std.specs.Int.{◌∣◌, IsGcd}
-use Rattle.std.proofs.lemmas.Nat.Gcd.{dvd-zero}
-use Rattle.std.proofs.Math.Nat.{div-mul_cancel, dvd-mul_left, dvd-mul_right, dvd_of_mul-dvd-mul_right, mul-dvd-mul_right, mul_assoc, mul_comm, mul-pos, mul-zero, pos_of_dvd_of_pos}
+use Rattle.ct_int.proofs.Base.{◌≡◌, ℕ, zero, suc, ◌*◌, ◌/◌, ◌<◌, sym, ◌∙◌, ap, subst, arith, ◌∣◌, IsGcd, dvd-zero, div-mul_cancel, dvd-mul_left}
+use Rattle.ct_int.proofs.Base.{dvd-mul_right, dvd_of_mul-dvd-mul_right, mul-dvd-mul_right, mul_assoc, mul_comm, mul-pos, mul-zero, pos_of_dvd_of_pos}
 use Rattle.ct_int.specs.DivisorLaws.{IsLeastCommon}
 use Rattle.ct_int.specs.Divisors.{greatest_common, least_common}
 use Rattle.ct_int.proofs.CommonDivisors.{greatest_common_is, divisor_positive}

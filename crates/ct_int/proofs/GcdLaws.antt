@@ -2,11 +2,10 @@
 -- Main lemma: `same_denominators`, at the end, which `LowestTerms` rests on; `divides_other` is Euclid's lemma.
 -- A common divisor of k·a and k·b divides k·g, by the steps of Euclid's algorithm (`IsGcd-scaled`); with g = 1, a number that
 -- divides b·c and shares no divisor with b divides c.
-use Rattle.std.specs.Prelude.{◌≡◌, ℕ, zero, suc, ◌*◌, ◌+◌, ◌/◌, ◌%◌, ◌<◌}
-use Rattle.std.specs.Int.{IsGcd, ◌∣◌}
-use Rattle.std.proofs.Common.{refl, sym, ◌∙◌, ap, arith, subst}
-use Rattle.std.proofs.lemmas.Nat.Gcd.{dvd_refl, IsGcd-from_zero, IsGcd-from_mod, IsGcd-swap, same_from_IsGcd, dvd_trans, dvd_antisymm}
-use Rattle.std.proofs.Math.Nat.{mul_assoc, mul_comm, mul-one, one-mul, mul-add, mod-lt, div-add-mod, div-mul_cancel, dvd-mod_iff, dvd-add_iff_right, dvd-mul_left, dvd-mul_right_of_dvd, mul-dvd-mul_left, mul-dvd-mul_right, dvd_of_mul-dvd-mul_right, one-dvd}
+use Rattle.ct_int.proofs.Base.{◌≡◌, ℕ, zero, suc, ◌*◌, ◌+◌, ◌/◌, ◌%◌, ◌<◌, IsGcd, ◌∣◌, refl, sym, ◌∙◌, ap, arith, subst, dvd_refl, IsGcd-from_zero}
+use Rattle.ct_int.proofs.Base.{IsGcd-from_mod, IsGcd-swap, same_from_IsGcd, dvd_trans, dvd_antisymm, mul_assoc, mul_comm, mul-one, one-mul, mul-add}
+use Rattle.ct_int.proofs.Base.{mod-lt, div-add-mod, div-mul_cancel, dvd-mod_iff, dvd-add_iff_right, dvd-mul_left, dvd-mul_right_of_dvd}
+use Rattle.ct_int.proofs.Base.{mul-dvd-mul_left, mul-dvd-mul_right, dvd_of_mul-dvd-mul_right, one-dvd}
 
 IsGcd-into_mod : (a b g : ℕ) → IsGcd a b g → IsGcd b (a % b) g
 IsGcd-into_mod a b g h = (h.1, (dvd-mod_iff g h.1).1 h.0, λ d p q. h.2 d ((dvd-mod_iff d p).0 q) p)

@@ -1,3 +1,4 @@
+pub mod Base
 pub mod Scaling
 pub mod GcdLaws
 pub mod LowestTerms

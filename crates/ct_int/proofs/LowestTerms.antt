@@ -1,17 +1,14 @@
 -- Values of ratios: one value has one lowest terms, and which terms these are.
 -- Main lemmas: `lowest_terms-same`, which the laws rest on, and `lowest-cancelled` and `lowest-product`, which the calls of `Rat` rest on.
 -- Denominators are equal by Euclid's lemma (`same_denominators`), and then numerators by cancelling (`scaled_same`).
-use Rattle.std.specs.Prelude.{◌≡◌, ◌*◌, ◌<◌, ℕ, zero, suc, ◌≤◌, ℤ, pos, ◌*ℤ◌, unsigned_abs}
-use Rattle.std.specs.Int.{IsGcd, ◌∣◌}
-use Rattle.std.proofs.Common.{refl, sym, ◌∙◌, ap, ap₂, subst, arith, ⊎_elim}
-use Rattle.std.proofs.lemmas.Int.{unsigned_abs-mul}
-use Rattle.std.proofs.lemmas.Nat.Gcd.{IsGcd-swap}
-use Rattle.std.proofs.Math.Nat.{pos_of_dvd_of_pos, le-mul_of_pos_right, mul-pos, mul_comm, zero-mul, dvd-mul_right}
-use lib.IntN.{*ℤ_comm}
+use Rattle.ct_int.proofs.Base.{◌≡◌, ◌*◌, ◌<◌, ℕ, zero, suc, ◌≤◌, ℤ, pos, ◌*ℤ◌, unsigned_abs, IsGcd, ◌∣◌, refl, sym, ◌∙◌, ap, ap₂, subst, arith}
+use Rattle.ct_int.proofs.Base.{⊎_elim, unsigned_abs-mul, IsGcd-swap, pos_of_dvd_of_pos, le-mul_of_pos_right, mul-pos, mul_comm, zero-mul}
+use Rattle.ct_int.proofs.Base.{dvd-mul_right}
 use Rattle.ct_int.proofs.GcdLaws.{same_denominators, coprime_parts, coprime_factors, coprime_product}
 use Rattle.ct_int.proofs.Scaling.{scaled_comm, scaled_same, scaled_twice, scaled_product}
 use Rattle.ct_int.specs.Rational.{Ratio, ratio, SameValue, IsLowest, IsCancelled, IsLowestTerms, product_of_ratios}
 use Rattle.ct_int.specs.Limits.{largest_whole, IsRational, LowestTermsPass}
+use lib.IntN.{*ℤ_comm}
 
 pub same_value-trans : (p q r : Ratio) → 0 < q.den → SameValue p q → SameValue q r → SameValue p r
 same_value-trans p q r positive first second =

@@ -2,16 +2,14 @@
 -- and a reciprocal.
 -- Main lemmas: `lowest-sum`, `sum_of_ratios-opposite` and `product_of_ratios-reciprocal`.
 -- Both sides are brought to one product of natural numbers, and a reciprocal goes by the cases of the sign.
-use Rattle.std.specs.Prelude.{◌≡◌, ◌≢◌, ℕ, zero, suc, ◌+◌, ◌*◌, ◌/◌, ◌<◌, ◌≤◌, ℤ, pos, negsuc, ◌+ℤ◌, ◌*ℤ◌, ◌<ℤ◌, ◌≤ℤ◌, neg_ℤ, unsigned_abs, Ok, Err}
-use Rattle.std.specs.Int.{IsGcd, ◌∣◌}
-use Rattle.std.proofs.Common.{refl, sym, ◌∙◌, ap, ap₂, arith, Result, ⊎_elim}
-use Rattle.std.proofs.lemmas.Int.{ints}
-use Rattle.std.proofs.lemmas.Nat.Gcd.{IsGcd-swap, same_from_IsGcd, le_of_dvd}
+use Rattle.ct_int.proofs.Base.{◌≡◌, ◌≢◌, ℕ, zero, suc, ◌+◌, ◌*◌, ◌/◌, ◌<◌, ◌≤◌, ℤ, pos, negsuc, ◌+ℤ◌, ◌*ℤ◌, ◌<ℤ◌, ◌≤ℤ◌, neg_ℤ, unsigned_abs, Ok, Err}
+use Rattle.ct_int.proofs.Base.{IsGcd, ◌∣◌, refl, sym, ◌∙◌, ap, ap₂, arith, Result, ⊎_elim, ints, IsGcd-swap, same_from_IsGcd, le_of_dvd}
+use Rattle.ct_int.proofs.Base.{div-mul_cancel, pos_of_dvd_of_pos, mul-pos, mul_comm}
 use Rattle.std.proofs.lemmas.Nat.{le-div}
-use Rattle.std.proofs.Math.Nat.{div-mul_cancel, pos_of_dvd_of_pos, mul-pos, mul_comm}
 use Rattle.ct_int.proofs.Scaling.{scaled_twice, scaled_sum, scaled_negated, times_negated}
 use Rattle.ct_int.proofs.LowestTerms.{same_value-trans}
-use Rattle.ct_int.specs.Rational.{Ratio, ratio, IsLowest, IsLowestTerms, opposite_of, sum_of_ratios, difference_of_ratios, product_of_ratios, quotient_of_ratios}
+use Rattle.ct_int.specs.Rational.{Ratio, ratio, IsLowest, IsLowestTerms, opposite_of, sum_of_ratios, difference_of_ratios, product_of_ratios}
+use Rattle.ct_int.specs.Rational.{quotient_of_ratios}
 use Rattle.ct_int.specs.Limits.{largest_whole, IsRational, SumPasses, RefusesWhere}
 use Rattle.ct_int.specs.declared.fault.IntFault.{IntFault}
 

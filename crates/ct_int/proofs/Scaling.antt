@@ -1,14 +1,9 @@
 -- Whole numbers times natural ones: both sides of an equation or an order may be scaled by a positive number.
 -- Main lemmas: `scaled_same` and `int_cmp-scaled`, which the laws of values and of their order rest on.
 -- By the cases of the signs, where a product computes, or by induction on the natural number.
-use Rattle.std.specs.Prelude.{◌≡◌, ℕ, zero, suc, ◌*◌, ◌/◌, ◌<◌, ℤ, pos, negsuc, ◌+ℤ◌, ◌*ℤ◌, ◌≤ℤ◌, ◌<ℤ◌, neg_ℤ, unsigned_abs}
-use Rattle.std.specs.Int.{◌∣◌}
-use Rattle.std.proofs.Common.{refl, sym, ◌∙◌, ap, arith, Less, Equal, Greater}
-use Rattle.std.proofs.lemmas.Int.{ints}
-use Rattle.std.specs.Ordering.{int_cmp, MatchOrdering}
-use Rattle.std.specs.Cmp.{int_cmp_is, int_ranks}
-use Rattle.std.specs.declared.cmp.Ordering.{Ordering}
-use Rattle.std.proofs.Math.Nat.{mul_assoc, mul_right_comm, mul_comm, zero-mul, div-mul_cancel}
+use Rattle.ct_int.proofs.Base.{◌≡◌, ℕ, zero, suc, ◌*◌, ◌/◌, ◌<◌, ℤ, pos, negsuc, ◌+ℤ◌, ◌*ℤ◌, ◌≤ℤ◌, ◌<ℤ◌, neg_ℤ, unsigned_abs, ◌∣◌, refl, sym, ◌∙◌, ap}
+use Rattle.ct_int.proofs.Base.{arith, Less, Equal, Greater, ints, int_cmp, MatchOrdering, int_cmp_is, int_ranks, Ordering, mul_assoc, mul_right_comm}
+use Rattle.ct_int.proofs.Base.{mul_comm, zero-mul, div-mul_cancel}
 use lib.IntN.{*ℤ_comm, *ℤ-zero, *ℤ-negsuc, neg_ℤ-neg_ℤ, suc_ℤ-*ℤ}
 
 -- ---- products by the cases of the signs

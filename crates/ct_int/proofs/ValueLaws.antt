@@ -1,20 +1,17 @@
 -- The laws of values: sums, products, differences, quotients and the order.
 -- Main lemmas: one for each law of `RationalLaws`, cited by the function of the law.
 -- Both sides of a law are scaled to one denominator (`scaled_comm`, `scaled_twice`), where they are the same whole number.
-use Rattle.std.specs.Prelude.{◌≡◌, ◌≢◌, ℕ, suc, ◌*◌, ◌<◌, ℤ, pos, negsuc, ◌+ℤ◌, ◌-ℤ◌, ◌*ℤ◌, ◌<ℤ◌, neg_ℤ, unsigned_abs, ◌↔◌}
-use Rattle.std.specs.Ordering.{int_cmp, ordering_reverse, MatchOrdering}
-use Rattle.std.specs.Cmp.{int_ranks}
-use Rattle.std.specs.declared.cmp.Ordering.{Ordering}
-use Rattle.std.proofs.Common.{sym, ◌∙◌, ap, ap₂, subst, arith, Less, Equal, Greater}
-use Rattle.std.proofs.lemmas.Int.{ints}
+use Rattle.ct_int.proofs.Base.{◌≡◌, ◌≢◌, ℕ, suc, ◌*◌, ◌<◌, ℤ, pos, negsuc, ◌+ℤ◌, ◌-ℤ◌, ◌*ℤ◌, ◌<ℤ◌, neg_ℤ, unsigned_abs, ◌↔◌, int_cmp}
+use Rattle.ct_int.proofs.Base.{ordering_reverse, MatchOrdering, int_ranks, Ordering, sym, ◌∙◌, ap, ap₂, subst, arith, Less, Equal, Greater, ints}
+use Rattle.ct_int.proofs.Base.{mul_comm}
 use Rattle.std.proofs.lemmas.Cmp.{int_cmp_total, tied_itself}
-use Rattle.std.proofs.Math.Nat.{mul_comm}
-use lib.IntN.{*ℤ_comm}
 use Rattle.ct_int.proofs.Scaling.{scaled_comm, scaled_twice, scaled_sum, scaled_product, scaled_negated, int_cmp-scaled, both_negated}
 use Rattle.ct_int.proofs.GcdLaws.{Cofactors, gcd-exists}
 use Rattle.ct_int.proofs.LowestTerms.{lowest-cancelled}
 use Rattle.ct_int.proofs.OperationLaws.{product_of_ratios-reciprocal}
-use Rattle.ct_int.specs.Rational.{Ratio, ratio, SameValue, IsLowestTerms, sum_of_ratios, difference_of_ratios, product_of_ratios, quotient_of_ratios, order_of_ratios}
+use Rattle.ct_int.specs.Rational.{Ratio, ratio, SameValue, IsLowestTerms, sum_of_ratios, difference_of_ratios, product_of_ratios, quotient_of_ratios}
+use Rattle.ct_int.specs.Rational.{order_of_ratios}
+use lib.IntN.{*ℤ_comm}
 
 -- a scale of two factors and one more, in another order
 scaled_thrice : (x : ℤ) (i j k : ℕ) → (x *ℤ pos i) *ℤ pos (j * k) ≡ (x *ℤ pos j) *ℤ pos (i * k)

@@ -1,13 +1,9 @@
 -- Numbers of 256 bits in two halves: their products, and their order.
 -- Main lemmas: `product-halves`, which `Wide::product` rests on, and `nat_cmp-halves`, which `Wide::cmp` rests on.
 -- The four products of the halves are added with their carries, which is linear once the products are named.
-use Rattle.std.specs.Prelude.{◌≡◌, ℕ, ◌+◌, ◌*◌, ◌/◌, ◌%◌, ◌<◌}
-use Rattle.std.proofs.Common.{refl, ◌∙◌, ap₂, arith, Less, Equal, Greater, nat_cmp}
+use Rattle.ct_int.proofs.Base.{◌≡◌, ℕ, ◌+◌, ◌*◌, ◌/◌, ◌%◌, ◌<◌, refl, ◌∙◌, ap₂, arith, Less, Equal, Greater, nat_cmp, MatchOrdering, nat_cmp_is}
+use Rattle.ct_int.proofs.Base.{Ordering, mul-le-mul_right, div-add-mod'}
 use Rattle.std.proofs.lemmas.Cmp.{ranked}
-use Rattle.std.specs.Ordering.{MatchOrdering}
-use Rattle.std.specs.Cmp.{nat_cmp_is}
-use Rattle.std.specs.declared.cmp.Ordering.{Ordering}
-use Rattle.std.proofs.Math.Nat.{mul-le-mul_right, div-add-mod'}
 
 -- 2 ^ 64 and 2 ^ 128
 abbrev pub half : ℕ

@@ -2,21 +2,12 @@
 -- Main lemmas: `begins` and the three `.._goes`, each turn of `conclude`'s loop keeps `Concluding`; `covers_of`, what the
 -- passes have decided covers each index below the bound.
 -- Each index below the bound is a miss of someone, so a slot that is still empty has its miss still to come.
-use Rattle.std.proofs.Common.{◌≡◌, ◌≢◌, ℕ, zero, suc, ◌<◌, ◌≤◌, List, [], ◌∷◌, ◌++◌, length, Some, None, Option, refl, sym, ap, ◌∙◌, subst, arith}
-use Rattle.std.specs.Prelude.{slice_get, map, ◌==◌, replicate}
-use Rattle.std.proofs.lemmas.Bool.Decides.{nat_tests}
-use Rattle.std.proofs.lemmas.List.{length-replicate}
-use Rattle.ct_core.specs.Counting.{sum_over, times, one_if, Each}
-use Rattle.ct_core.proofs.Totals.{sum_over-append, each_here, each_there}
+use Rattle.ct_pool.proofs.Base.{◌≡◌, ◌≢◌, ℕ, zero, suc, ◌<◌, ◌≤◌, List, [], ◌∷◌, ◌++◌, length, Some, None, Option, refl, sym, ap, ◌∙◌, subst, arith}
+use Rattle.ct_pool.proofs.Base.{slice_get, map, ◌==◌, replicate, nat_tests, length-replicate, sum_over, times, one_if, Each, sum_over-append}
+use Rattle.ct_pool.proofs.Base.{each_here, each_there, IfSome, once_below, Sight, DecidedBy, some_and}
 use Rattle.ct_pool.specs.declared.job.Outcome.{Outcome}
 use Rattle.ct_pool.specs.declared.job.Outcome.TheVariants.{Hit}
-use Rattle.ct_pool.specs.Found.{FoundValue, AreSlots, AreFound, LeftEmpty, Covers, numbers_of, hits_of, bound_of}
-use Rattle.std.specs.Prelude.{IfSome}
-use Rattle.ct_core.specs.Counting.{once_below}
-use Rattle.ct_core.specs.Machine.{Sight}
-use Rattle.ct_core.specs.CompleteList.{DecidedBy}
-use Rattle.ct_core.specs.Steps.{some_and}
-use Rattle.ct_pool.specs.Found.{key_of, key_found}
+use Rattle.ct_pool.specs.Found.{FoundValue, AreSlots, AreFound, LeftEmpty, Covers, numbers_of, hits_of, bound_of, key_of, key_found}
 
 -- how often k is among the indices of a worker's misses
 abbrev pub times_found : {M H : Type 0} → ℕ → FoundValue M H → ℕ

@@ -2,12 +2,8 @@
 -- Main lemma: `gathered`, at the end, which `settle` cites, and through it the clause `gathered` of `Claims::gather`.
 -- Each load tells that the views are what the machine keeps beside some other word; the two loads together name both
 -- words (`both_told`), and what the machine keeps says the rest.
-use Rattle.std.proofs.Common.{◌≡◌, ℕ, zero, suc, ◌<◌, ◌≤◌, List, length, Some, None, Option, true, refl, sym, ◌∙◌, subst, arith}
-use Rattle.std.specs.Prelude.{IfSome, ◌==◌}
-use Rattle.ct_core.specs.Machine.{Sight}
-use Rattle.ct_core.specs.Counting.{sum_below, one_if}
-use Rattle.ct_core.specs.Kept.{Kept, Fits, Reaches}
-use Rattle.ct_core.proofs.Totals.{each_map, sum_below-times}
+use Rattle.ct_pool.proofs.Base.{◌≡◌, ℕ, zero, suc, ◌<◌, ◌≤◌, List, length, Some, None, Option, true, refl, sym, ◌∙◌, subst, arith, IfSome, ◌==◌}
+use Rattle.ct_pool.proofs.Base.{Sight, sum_below, one_if, Kept, Fits, Reaches, each_map, sum_below-times}
 use Rattle.ct_core.proofs.EachNumberOnce.{decides}
 use Rattle.ct_pool.specs.Passes.{RootView, IsLeastHit, IsGathered}
 use Rattle.ct_pool.proofs.Places.{next_bound}

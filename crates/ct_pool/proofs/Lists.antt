@@ -1,11 +1,8 @@
 -- Lists that grow and shrink at the end.
 -- Main lemmas: `all_push`, `all_pop`, `each_push`, `maps_push`: what each element meets, and equal maps, with one more
 -- element or one less; `all_reverse`; `slice_back`, a vector lent as a slice comes back whole.
-use Rattle.std.proofs.Common.{◌≡◌, ℕ, zero, suc, List, [], ◌∷◌, ◌++◌, length, refl, sym, ap, ◌∙◌, subst, arith}
-use Rattle.std.specs.Prelude.{map, All, take, reverse}
-use Rattle.std.proofs.lemmas.List.{reverse-append}
-use Rattle.ct_core.specs.Counting.{Each}
-use Rattle.ct_core.proofs.Totals.{each_append, each_here, each_there}
+use Rattle.ct_pool.proofs.Base.{◌≡◌, ℕ, zero, suc, List, [], ◌∷◌, ◌++◌, length, refl, sym, ap, ◌∙◌, subst, arith, map, All, take, reverse}
+use Rattle.ct_pool.proofs.Base.{reverse-append, Each, each_append, each_here, each_there}
 
 pub map_push : {X Y : Type 0} (f : X → Y) (xs : List X) (y : X) → map f (xs ++ y ∷ []) ≡ map f xs ++ f y ∷ []
 map_push f [] y = refl

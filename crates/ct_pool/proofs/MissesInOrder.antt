@@ -1,12 +1,9 @@
 -- Misses are put into the slots of their indices, and read off in order.
 -- Main lemmas: `fills` and `passes_by`, a turn of `fill`'s loop keeps `Filling`; `orders`, a turn of `in_order`'s keeps `Ordered`.
-use Rattle.std.proofs.Common.{◌≡◌, ◌≢◌, ◌⊎◌, inl, inr, ⊎_elim, ℕ, zero, suc, ◌≤◌, List, [], ◌∷◌, ◌++◌, length, set, Some, None, Option, refl, sym, ap, ◌∙◌, subst, arith, append_assoc, length-append}
-use Rattle.std.specs.Prelude.{slice_get, map, reverse, ◌==◌}
-use Rattle.std.proofs.lemmas.Bool.Decides.{nat_tests}
+use Rattle.ct_pool.proofs.Base.{◌≡◌, ◌≢◌, ◌⊎◌, inl, inr, ⊎_elim, ℕ, zero, suc, ◌≤◌, List, [], ◌∷◌, ◌++◌, length, set, Some, None, Option, refl, sym}
+use Rattle.ct_pool.proofs.Base.{ap, ◌∙◌, subst, arith, append_assoc, length-append, slice_get, map, reverse, ◌==◌, nat_tests, reverse-append, times}
+use Rattle.ct_pool.proofs.Base.{one_if, sum_over-append, each_here, each_there}
 use Rattle.std.proofs.lemmas.Option.{slice_get_within}
-use Rattle.std.proofs.lemmas.List.{reverse-append}
-use Rattle.ct_core.specs.Counting.{times, one_if}
-use Rattle.ct_core.proofs.Totals.{sum_over-append, each_here, each_there}
 use Rattle.ct_pool.specs.declared.job.Outcome.{Outcome}
 use Rattle.ct_pool.specs.declared.job.Outcome.TheVariants.{Miss}
 use Rattle.ct_pool.specs.FirstDecided.{outcomes_below}

@@ -1,9 +1,7 @@
 -- The passes of an opening: how many there are, and that each is fresh.
 -- Main lemmas: `length-passes_of` and `opened_fresh`, which `first_decided` cites.
-use Rattle.std.proofs.Common.{◌≡◌, ℕ, zero, suc, [], ◌∷◌, length, refl, arith, length-append}
-use Rattle.std.specs.Prelude.{All}
+use Rattle.ct_pool.proofs.Base.{◌≡◌, ℕ, zero, suc, [], ◌∷◌, length, refl, arith, length-append, All, fresh}
 use Rattle.atomic_table.specs.Seated.{TableId}
-use Rattle.ct_core.specs.Machine.{fresh}
 use Rattle.ct_pool.specs.Passes.{PassView, passes_of}
 use Rattle.ct_pool.proofs.Lists.{all_push}
 

@@ -1,18 +1,14 @@
 -- Where a worker's view stands in the list of all views, and how far the first word goes.
 -- Main lemmas: `stands`, a live seat's view has a place there, and a change at the seat is a change at that place;
 -- `next_bound`, at most one claim of each worker is at or past the count. `RuleByWorkers` cites both, `Gathered` the second.
-use Rattle.std.proofs.Common.{◌≡◌, ◌≢◌, ℕ, zero, suc, ◌+◌, ◌<◌, ◌≤◌, List, [], ◌∷◌, ◌++◌, length, set, Some, None, Option, Bool, true, false, refl, sym, ap, ◌∙◌, subst, arith}
-use Rattle.std.specs.Prelude.{slice_get, nat_le}
-use Rattle.std.proofs.lemmas.Bool.Decides.{nat_tests}
-use mathlib.Core.Option.{some, some-injective, some-ne-none}
-use lib.ListN.{get_elem?}
+use Rattle.ct_pool.proofs.Base.{◌≡◌, ◌≢◌, ℕ, zero, suc, ◌+◌, ◌<◌, ◌≤◌, List, [], ◌∷◌, ◌++◌, length, set, Some, None, Option, Bool, true, false, refl}
+use Rattle.ct_pool.proofs.Base.{sym, ap, ◌∙◌, subst, arith, slice_get, nat_le, nat_tests, Sight, sum_over, one_if, sum_below, Each, Kept, Fits}
+use Rattle.ct_pool.proofs.Base.{list_of, sum_over-append, sum_over-below, each_map}
 use Rattle.atomic_table.proofs.Lists.{set_else}
-use Rattle.ct_core.specs.Machine.{Sight}
-use Rattle.ct_core.specs.Counting.{sum_over, one_if, sum_below, Each}
-use Rattle.ct_core.specs.Kept.{Kept, Fits, list_of}
-use Rattle.ct_core.proofs.Totals.{sum_over-append, sum_over-below, each_map}
 use Rattle.ct_pool.specs.declared.note.Note.{Note}
 use Rattle.ct_pool.specs.Notes.{root_note, live_note, sights_of, flat}
+use mathlib.Core.Option.{some, some-injective, some-ne-none}
+use lib.ListN.{get_elem?}
 
 module _ {X : Type 0} where
   get_past : (xs ys : List X) (k : ℕ) (v : X) → slice_get ys k ≡ Some v → slice_get (xs ++ ys) (length xs + k) ≡ Some v

@@ -2,23 +2,17 @@
 -- Main lemmas: `splits`, `merges`, `tells_next`, `tells_least`; the forms that end in `_key`
 -- are what the calls of `Claims` cite.
 -- The machine's `Kept` names no order of the views, so views that move from a seat to the root's list keep it (`kept_by`).
-use Rattle.std.proofs.Common.{◌≡◌, ℕ, zero, suc, ◌+◌, ◌<◌, ◌≤◌, List, [], ◌∷◌, ◌++◌, length, set, Some, None, Option, refl, sym, ap, ◌∙◌, subst, arith, length-append, append-nil, append_assoc}
-use Rattle.std.specs.Prelude.{slice_index, IfSome}
-use mathlib.Core.Option.{some, some-injective, some-ne-none}
-use lib.ListN.{get_elem?}
-use Rattle.atomic_table.specs.Table.{State, Me, Allows, Splits, Joins}
+use Rattle.ct_pool.proofs.Base.{◌≡◌, ℕ, zero, suc, ◌+◌, ◌<◌, ◌≤◌, List, [], ◌∷◌, ◌++◌, length, set, Some, None, Option, refl, sym, ap, ◌∙◌, subst}
+use Rattle.ct_pool.proofs.Base.{arith, length-append, append-nil, append_assoc, slice_index, IfSome, State, Me, Allows, Splits, Joins, Sight}
+use Rattle.ct_pool.proofs.Base.{sum_over, Each, has_hit, Kept, Fits, fresh, sum_over-append, each_append, each_here, each_there}
 use Rattle.atomic_table.specs.Table.Act.{keeps as holds_still}
 use Rattle.atomic_table.proofs.Lists.{set_again}
-use Rattle.ct_core.specs.Machine.{Sight}
-use Rattle.ct_core.specs.Counting.{sum_over, Each}
-use Rattle.ct_core.specs.CompleteList.{has_hit}
-use Rattle.ct_core.specs.Kept.{Kept, Fits}
-use Rattle.ct_core.specs.Machine.{fresh}
-use Rattle.ct_core.proofs.Totals.{sum_over-append, each_append, each_here, each_there}
 use Rattle.ct_pool.specs.declared.note.Note.{Note}
 use Rattle.ct_pool.specs.Notes.{root_note, live_note, spent_note, sights_of, flat, word_of, least_of}
 use Rattle.ct_pool.specs.ClaimRule.{IsRuled, AllBack}
 use Rattle.ct_pool.proofs.RuleByWorkers.{told_least, word0, word1}
+use mathlib.Core.Option.{some, some-injective, some-ne-none}
+use lib.ListN.{get_elem?}
 
 flat-append : (xs ys : List Note) → flat (xs ++ ys) ≡ flat xs ++ flat ys
 flat-append [] ys = refl

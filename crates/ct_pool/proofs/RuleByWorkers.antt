@@ -2,18 +2,12 @@
 -- Main lemmas: `claims`, `looks`, `hits`; the forms that end in `_as` are what the calls of `Claims` cite.
 -- The worker's view stands at some place of the list of all views (`Places.stands`). There the step is an event of the
 -- claim machine, or two, and what the machine keeps is kept (`EventsKeep.keeps` of ct_core).
-use Rattle.std.proofs.Common.{◌≡◌, ℕ, zero, suc, ◌+◌, ◌%◌, ◌^◌, ◌<◌, ◌≤◌, List, [], ◌∷◌, ◌++◌, length, set, Some, None, Option, Bool, true, false, refl, sym, ap, ◌∙◌, subst, arith, length-set, min}
-use Rattle.std.specs.Prelude.{slice_get, slice_index, ◌==◌, if◌then◌else◌, IfSome}
-use Rattle.std.proofs.lemmas.Bool.Decides.{nat_tests}
+use Rattle.ct_pool.proofs.Base.{◌≡◌, ℕ, zero, suc, ◌+◌, ◌%◌, ◌^◌, ◌<◌, ◌≤◌, List, [], ◌∷◌, ◌++◌, length, set, Some, None, Option, Bool, true, false}
+use Rattle.ct_pool.proofs.Base.{refl, sym, ap, ◌∙◌, subst, arith, length-set, min, slice_get, slice_index, ◌==◌, if◌then◌else◌, IfSome, nat_tests}
+use Rattle.ct_pool.proofs.Base.{State, Me, Allows, Sight, Kept, Fits, view_after, may_end, is_legal, none_or, Claim, Look, Refuse, Hit, each_at}
+use Rattle.ct_pool.proofs.Base.{sum_over-append, sum_below-times, sum_over, times, one_if, once_below, list_of, least_with}
 use Rattle.std.proofs.lemmas.Bool.{and_from, not_from_false}
-use mathlib.Core.Option.{some}
-use lib.ListN.{get_elem?}
-use Rattle.atomic_table.specs.Table.{State, Me, Allows}
 use Rattle.atomic_table.specs.Table.Act.{keeps as holds_still}
-use Rattle.ct_core.specs.Machine.{Sight}
-use Rattle.ct_core.specs.Kept.{Kept, Fits}
-use Rattle.ct_core.specs.Steps.{view_after, may_end, is_legal, none_or}
-use Rattle.ct_core.specs.declared.event.Event.TheVariants.{Claim, Look, Refuse, Hit}
 use Rattle.ct_core.proofs.EventsKeep.{keeps, ends_is}
 use Rattle.ct_pool.specs.declared.note.Note.{Note}
 use Rattle.ct_pool.specs.Notes.{live_note, flat, word_of, least_of, refused_at, claims_at, looks_at, hits_at}
@@ -21,10 +15,8 @@ use Rattle.ct_pool.specs.ClaimRule.{IsRuled}
 use Rattle.ct_pool.specs.Passes.{may_claim}
 use Rattle.ct_pool.proofs.Places.{stands, get_set, set_twice, root_stays, next_bound}
 use Rattle.ct_core.proofs.EachNumberOnce.{least_below}
-use Rattle.ct_core.proofs.Totals.{each_at, sum_over-append, sum_below-times}
-use Rattle.ct_core.specs.Counting.{sum_over, times, one_if, once_below}
-use Rattle.ct_core.specs.Kept.{list_of}
-use Rattle.ct_core.specs.Steps.{least_with}
+use mathlib.Core.Option.{some}
+use lib.ListN.{get_elem?}
 
 -- the pending index is refused, and the next number claimed
 claims_twice : (count next : ℕ) (least : Option ℕ) (views : List Sight) (k : ℕ) (v : Sight) (o : Option ℕ) → v.pending ≡ o → slice_get views k ≡ Some v → may_claim v o ≡ true → Kept count next least views

@@ -1,12 +1,8 @@
 -- The first generator whose leading monomial divides a monomial. Main lemmas `found_is_first`, `none_reduces`,
 -- `first_is_first`. Cited by `Searching` and by the laws of steps.
-use Rattle.std.specs.Prelude.{◌≡◌, ℕ, zero, suc, ◌+◌, ◌<◌, None, Some, List, [], ◌∷◌, refl, length, get_or, MatchOption}
-use Rattle.std.proofs.Common.{Option, sym, ◌∙◌, ap, arith, subst}
-use Rattle.ct_algebra.specs.Leading.{leading, OperatorLeads, LeadingDivides, IsIrreducible}
-use Rattle.ct_algebra.specs.Monomial.{Mono, monomials, ◌·◌}
-use Rattle.ct_algebra.specs.Polynomial.{Polynomial, polys}
-use Rattle.ct_algebra.specs.Operators.{Operator, no_operator}
-use Rattle.ct_algebra.proofs.LeadingTerms.{leading-Leads, Leads-leading}
+use Rattle.ct_reduce.proofs.Base.{◌≡◌, ℕ, zero, suc, ◌+◌, ◌<◌, None, Some, List, [], ◌∷◌, refl, length, get_or, MatchOption, Option, sym, ◌∙◌, ap}
+use Rattle.ct_reduce.proofs.Base.{arith, subst, leading, OperatorLeads, LeadingDivides, IsIrreducible, Mono, monomials, ◌·◌, Polynomial, polys}
+use Rattle.ct_reduce.proofs.Base.{Operator, no_operator, leading-Leads, Leads-leading}
 use Rattle.ct_mono.specs.Division.{over_is, over_none}
 use Rattle.ct_reduce.specs.Reduction.{Reducer, or_later, over_leading, reducer_by, first_reducer_from, first_reducer}
 use Rattle.ct_reduce.specs.ReductionLaws.{IsFirstReducer}

@@ -1,3 +1,4 @@
+pub mod Base
 pub mod FirstReducers
 pub mod Searching
 pub mod StepValues

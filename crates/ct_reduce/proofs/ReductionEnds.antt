@@ -1,30 +1,20 @@
 -- Each step takes the greatest reducible monomial away, so a reduction ends. Main lemmas `step_falls`, `falls`,
 -- `reduction_is`: the symbols before a generator have the monomial that is reduced for their leading monomial, so at it the
 -- difference is zero, and above it nothing changes but by a factor. Cited by `ReductionMeans`, the laws and the code's loop.
-use Rattle.std.specs.Prelude.{◌≡◌, ◌<◌, None, Some, Ok, List, ◌∷◌, refl, T}
-use Rattle.std.proofs.Common.{Option, sym, ◌∙◌, ap, ap₂, subst, arith, inl, inr, Ordering, Less, Equal, Greater}
-use Rattle.ct_algebra.specs.Ring.{mul_zero, one_mul}
-use Rattle.ct_algebra.specs.Terms.{IsCanonical, is_less}
-use Rattle.ct_algebra.specs.Laws.Terms.{at_head, at_below, AllBelow_trans}
-use Rattle.ct_algebra.specs.Sums.{at}
-use Rattle.ct_algebra.specs.Leading.{leading, OperatorLeads}
-use Rattle.ct_algebra.specs.Monomial.{Mono, monomials, mono_cmp, mono_tied, mono_turned_back}
-use Rattle.ct_algebra.specs.Names.{Name}
-use Rattle.ct_algebra.specs.Polynomial.{Polynomial, polys, plus, plus_is, times, times_is}
-use Rattle.ct_algebra.specs.Actions.{Action}
-use Rattle.ct_algebra.specs.Operators.{Operator, polynomial_at, sum_of_operators, negative, term_of, product_of, multiple}
-use Rattle.ct_algebra.specs.Membership.{Reduction}
-use Rattle.ct_algebra.proofs.AppliedOperators.{multiple-product_of}
-use Rattle.ct_algebra.proofs.LeadingTerms.{leading-Leads}
+use Rattle.ct_reduce.proofs.Base.{◌≡◌, ◌<◌, None, Some, Ok, List, ◌∷◌, refl, T, Option, sym, ◌∙◌, ap, ap₂, subst, arith, inl, inr, Ordering, Less}
+use Rattle.ct_reduce.proofs.Base.{Equal, Greater, mul_zero, one_mul, IsCanonical, is_less, at_head, at_below, AllBelow_trans, at, leading}
+use Rattle.ct_reduce.proofs.Base.{OperatorLeads, Mono, monomials, mono_cmp, mono_tied, mono_turned_back, Name, Polynomial, polys, plus, plus_is}
+use Rattle.ct_reduce.proofs.Base.{times, times_is, Action, Operator, polynomial_at, sum_of_operators, negative, term_of, product_of, multiple}
+use Rattle.ct_reduce.proofs.Base.{Reduction, multiple-product_of, leading-Leads, quotient}
 use Rattle.ct_algebra.proofs.OperatorLawProofs.{finite_maps}
 use Rattle.ct_algebra.proofs.OperatorTerms.{at-multiple}
 use Rattle.ct_algebra.proofs.ProductRule.{multiple-one_term}
 use Rattle.ct_algebra.proofs.ShiftedLeading.{shifted_leads}
 use Rattle.ct_checked.specs.Loop.{Falls, run_is}
 use Rattle.ct_mono.specs.Rank.{rank-less}
-use Rattle.ct_poly.specs.Division.{quotient}
 use Rattle.ct_poly.proofs.DivisionLaws.{quotient_is}
-use Rattle.ct_reduce.specs.Reduction.{Reducible, leading_coefficient, factor_for, share_for, greatest_reducible, first_reducer, checked_step, reducible_rank, reduction_rank, reduction_from, reduction_turn}
+use Rattle.ct_reduce.specs.Reduction.{Reducible, leading_coefficient, factor_for, share_for, greatest_reducible, first_reducer, checked_step}
+use Rattle.ct_reduce.specs.Reduction.{reducible_rank, reduction_rank, reduction_from, reduction_turn}
 use Rattle.ct_reduce.proofs.FirstReducers.{stands, over_leading_some}
 use Rattle.ct_reduce.proofs.Searching.{value, IsDone, Found, found}
 use Rattle.ct_reduce.proofs.StepValues.{moved, step_is}

@@ -1,13 +1,6 @@
 -- What a checked reduction means. Main lemmas `reduction_means`, `answer_means`: its value is a
 -- reduction of the operator to a reduced rest. Cited by `left_reduce`.
-use Rattle.std.specs.Prelude.{◌≡◌, Ok, Err, List, IfOk}
-use Rattle.std.proofs.Common.{Result, sym, ◌∙◌, ap}
-use Rattle.ct_algebra.specs.Names.{Name}
-use Rattle.ct_algebra.specs.Polynomial.{polys}
-use Rattle.ct_algebra.specs.Actions.{Action}
-use Rattle.ct_algebra.specs.Operators.{Operator}
-use Rattle.ct_algebra.specs.Leading.{IsReduced}
-use Rattle.ct_algebra.specs.Membership.{Reduction, ReducesTo}
+use Rattle.ct_reduce.proofs.Base.{◌≡◌, Ok, Err, List, IfOk, Result, sym, ◌∙◌, ap, Name, polys, Action, Operator, IsReduced, Reduction, ReducesTo}
 use Rattle.ct_checked.specs.Checked.{AnswersBy}
 use Rattle.ct_checked.specs.Loop.{run_keeps}
 use Rattle.ct_checked.specs.declared.fault.Fault.{Fault}

@@ -1,16 +1,9 @@
 -- What the search finds. Main lemmas `found`, `nothing_found`, `greatest_is_greatest`: the terms fall, so the first term with
 -- a reducer has the greatest monomial. Cited by `ReductionEnds` and the laws.
-use Rattle.std.specs.Prelude.{◌≡◌, ◌≢◌, None, Some, List, [], ◌∷◌, ◌⊎◌, refl, MatchOption, T}
-use Rattle.std.proofs.Common.{Option, sym, ◌∙◌, ap, subst, inl, inr, Ordering, Less, Equal, Greater}
-use Rattle.ct_algebra.specs.Group.{zero_add}
-use Rattle.ct_algebra.specs.Terms.{AllBelow, IsCanonical, value_at, by_order, is_less}
-use Rattle.ct_algebra.specs.Laws.Terms.{at_below, at_head, less_is, not_zero, AllBelow_trans}
-use Rattle.ct_algebra.specs.Sums.{at}
-use Rattle.ct_algebra.specs.Monomial.{Mono, monomials, mono_cmp, mono_tied, mono_turned}
-use Rattle.ct_algebra.specs.Polynomial.{Polynomial, polys}
-use Rattle.ct_algebra.specs.Operators.{Operator, polynomial_at}
-use Rattle.ct_algebra.specs.Leading.{IsIrreducible, IsReduced}
-use Rattle.ct_algebra.specs.Membership.{Reduction}
+use Rattle.ct_reduce.proofs.Base.{◌≡◌, ◌≢◌, None, Some, List, [], ◌∷◌, ◌⊎◌, refl, MatchOption, T, Option, sym, ◌∙◌, ap, subst, inl, inr, Ordering}
+use Rattle.ct_reduce.proofs.Base.{Less, Equal, Greater, zero_add, AllBelow, IsCanonical, value_at, by_order, is_less, at_below, at_head, less_is}
+use Rattle.ct_reduce.proofs.Base.{not_zero, AllBelow_trans, at, Mono, monomials, mono_cmp, mono_tied, mono_turned, Polynomial, polys, Operator}
+use Rattle.ct_reduce.proofs.Base.{polynomial_at, IsIrreducible, IsReduced, Reduction}
 use Rattle.ct_reduce.specs.Reduction.{Reducer, Reducible, or_later, first_reducer, reducible_by, first_reducible, greatest_reducible}
 use Rattle.ct_reduce.specs.ReductionLaws.{IsGreatestReducible}
 use Rattle.ct_reduce.proofs.FirstReducers.{none_reduces, found_is_first}

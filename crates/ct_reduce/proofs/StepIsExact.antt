@@ -1,16 +1,8 @@
 -- A checked step in the words of ReductionLaws. Main lemma `exact_step`.
-use Rattle.std.specs.Prelude.{◌≡◌, ℕ, zero, suc, ◌<◌, None, Some, List, [], ◌∷◌, map, length, get_or, refl, MatchOption}
-use Rattle.std.proofs.Common.{Option, sym, ◌∙◌, ap, subst, arith}
-use Rattle.std.proofs.lemmas.List.{length-map, get_or-set_same, get_or-set_other}
-use Rattle.ct_algebra.specs.Leading.{leading, OperatorLeads}
-use Rattle.ct_algebra.specs.Monomial.{monomials}
-use Rattle.ct_algebra.specs.Names.{Name}
-use Rattle.ct_algebra.specs.Polynomial.{Polynomial, polys}
-use Rattle.ct_algebra.specs.Actions.{Action}
-use Rattle.ct_algebra.specs.Operators.{Operator, no_operator, sum_of_operators, negative, term_of, product_of, multiple}
-use Rattle.ct_algebra.proofs.AppliedOperators.{multiple-no_operator}
-use Rattle.ct_algebra.proofs.LeadingTerms.{leading-Leads}
-use Rattle.ct_poly.specs.Division.{quotient}
+use Rattle.ct_reduce.proofs.Base.{◌≡◌, ℕ, zero, suc, ◌<◌, None, Some, List, [], ◌∷◌, map, length, get_or, refl, MatchOption, Option, sym, ◌∙◌, ap}
+use Rattle.ct_reduce.proofs.Base.{subst, arith, length-map, get_or-set_same, get_or-set_other, leading, OperatorLeads, monomials, Name, Polynomial}
+use Rattle.ct_reduce.proofs.Base.{polys, Action, Operator, no_operator, sum_of_operators, negative, term_of, product_of, multiple}
+use Rattle.ct_reduce.proofs.Base.{multiple-no_operator, leading-Leads, quotient}
 use Rattle.ct_reduce.specs.Reduction.{leading_coefficient, factor_for, share_for, first_reducer}
 use Rattle.ct_reduce.specs.ReductionLaws.{EachStepIsExact}
 use Rattle.ct_reduce.proofs.FirstReducers.{found_is_first}

@@ -1,23 +1,16 @@
 -- What one step makes of a reduction, by the exact operations. Main lemma `step_is`: where a checked step has a value, all
 -- is multiplied by the plan's factor, and then the part's product is taken from the rest. Cited by the laws of steps.
-use Rattle.std.specs.Prelude.{◌≡◌, Ok, List, [], ◌∷◌, ◌++◌, map, cond, refl, Bool, true, false, ◌↔◌, IsTrue, get_or}
-use Rattle.std.proofs.Common.{sym, ◌∙◌, ap, subst, append_assoc, append-nil}
-use lib.ListN.{set}
-use Rattle.ct_algebra.specs.Group.{neg_unique, neg_neg}
-use Rattle.ct_algebra.specs.Ring.{one_mul}
-use Rattle.ct_algebra.specs.Monomial.{unit}
-use Rattle.ct_algebra.specs.Names.{Name}
-use Rattle.ct_algebra.specs.Polynomial.{Polynomial, polys, times, times_is}
-use Rattle.ct_algebra.specs.Actions.{Action}
-use Rattle.ct_algebra.specs.Operators.{Operator, sum_of_operators, negative, term_of, no_operator, product_of, multiple}
-use Rattle.ct_algebra.specs.Membership.{Reduction}
-use Rattle.ct_algebra.proofs.AppliedOperators.{multiple-one}
+use Rattle.ct_reduce.proofs.Base.{◌≡◌, Ok, List, [], ◌∷◌, ◌++◌, map, cond, refl, Bool, true, false, ◌↔◌, IsTrue, get_or, sym, ◌∙◌, ap, subst}
+use Rattle.ct_reduce.proofs.Base.{append_assoc, append-nil, neg_unique, neg_neg, one_mul, unit, Name, Polynomial, polys, times, times_is, Action}
+use Rattle.ct_reduce.proofs.Base.{Operator, sum_of_operators, negative, term_of, no_operator, product_of, multiple, Reduction, multiple-one}
+use Rattle.ct_reduce.proofs.Base.{checked_sum, checked_difference, difference_of_operators, checked_product, sum_overflow}
 use Rattle.ct_algebra.proofs.ProductRule.{product_of-polynomial}
 use Rattle.ct_checked.specs.Checked.{verdict_ok, both_fit}
 use Rattle.ct_poly.specs.Measures.{checked_times, product_overflow}
-use Rattle.ct_ore.specs.Measures.{checked_sum, checked_difference, difference_of_operators, checked_product, sum_overflow}
+use Rattle.ct_reduce.specs.Reduction.{Reducible, Step, step_for, is_one, checked_plan, checked_multiples, checked_multiplied, multiplied_unless_one}
+use Rattle.ct_reduce.specs.Reduction.{checked_taken, checked_step}
+use lib.ListN.{set}
 use Rattle.ct_ore.specs.Measures as operators
-use Rattle.ct_reduce.specs.Reduction.{Reducible, Step, step_for, is_one, checked_plan, checked_multiples, checked_multiplied, multiplied_unless_one, checked_taken, checked_step}
 
 -- ---- values of checked operations
 

@@ -1,26 +1,18 @@
 -- The steps of a reduction keep its identity. Main lemmas `start_reduces`, `step_reduces`: scale·p is the combination of
 -- the cofactors with the generators, plus the rest, with a nonzero scale. Cited by `ReductionMeans`.
-use Rattle.std.specs.Prelude.{◌≡◌, ◌≢◌, ℕ, zero, suc, ◌<◌, List, [], ◌∷◌, map, length, get_or, refl, Ok, Some}
-use Rattle.std.proofs.Common.{Option, None, sym, ◌∙◌, ap, ap₂, arith}
-use Rattle.std.proofs.lemmas.List.{length-map}
-use lib.ListN.{set, length-set}
-use Rattle.ct_algebra.specs.Group.{add_left_comm, zero_add}
-use Rattle.ct_algebra.specs.Terms.{IsCanonical}
-use Rattle.ct_algebra.specs.Laws.Terms.{not_zero}
+use Rattle.ct_reduce.proofs.Base.{◌≡◌, ◌≢◌, ℕ, zero, suc, ◌<◌, List, [], ◌∷◌, map, length, get_or, refl, Ok, Some, Option, None, sym, ◌∙◌, ap, ap₂}
+use Rattle.ct_reduce.proofs.Base.{arith, length-map, add_left_comm, zero_add, IsCanonical, not_zero, leading, Mono, monomials, Name, Polynomial}
+use Rattle.ct_reduce.proofs.Base.{polys, polys_domain, times_is, Action, Operator, operator_group, no_operator, sum_of_operators, negative}
+use Rattle.ct_reduce.proofs.Base.{product_of, product_of-sum_left, multiple, combination, Reduction, IsMember, ReducesTo, multiple-sum}
+use Rattle.ct_reduce.proofs.Base.{multiple-multiple, multiple-one, multiple-product_of, multiple-no_operator, no_operator-product_of}
 use Rattle.ct_algebra.specs.Domain.{product_nonzero}
-use Rattle.ct_algebra.specs.Leading.{leading}
-use Rattle.ct_algebra.specs.Monomial.{Mono, monomials}
-use Rattle.ct_algebra.specs.Names.{Name}
-use Rattle.ct_algebra.specs.Polynomial.{Polynomial, polys, polys_domain, times_is}
-use Rattle.ct_algebra.specs.Actions.{Action}
-use Rattle.ct_algebra.specs.Operators.{Operator, operator_group, no_operator, sum_of_operators, negative, product_of, product_of-sum_left, multiple, combination}
-use Rattle.ct_algebra.specs.Membership.{Reduction, IsMember, ReducesTo}
 use Rattle.ct_algebra.proofs.OperatorTerms.{sums_are, none_is, negatives_are}
-use Rattle.ct_algebra.proofs.AppliedOperators.{multiple-sum, multiple-multiple, multiple-one, multiple-product_of, multiple-no_operator, no_operator-product_of}
-use Rattle.ct_reduce.specs.Reduction.{Reducible, Step, leading_coefficient, factor_for, step_for, no_cofactors, start, checked_step, greatest_reducible}
+use Rattle.ct_reduce.specs.Reduction.{Reducible, Step, leading_coefficient, factor_for, step_for, no_cofactors, start, checked_step}
+use Rattle.ct_reduce.specs.Reduction.{greatest_reducible}
 use Rattle.ct_reduce.proofs.FirstReducers.{found_is_first}
 use Rattle.ct_reduce.proofs.Searching.{found}
 use Rattle.ct_reduce.proofs.StepValues.{Multiplied, Taken, moved, step_is}
+use lib.ListN.{set, length-set}
 
 -- ---- sums of operators
 

@@ -1,20 +1,15 @@
 -- One turn of the loop, as the code makes it. Main lemmas `turned`, `place_known`: the rest of the reduction stays the same,
 -- the rank falls, and there are as many cofactors as before, so that the next step finds its own.
-use Rattle.std.specs.Prelude.{◌≡◌, ◌<◌, Ok, Some, List, length}
-use Rattle.std.proofs.Common.{sym, ◌∙◌, ap, arith}
-use Rattle.std.proofs.lemmas.List.{length-map}
-use lib.ListN.{length-set}
-use Rattle.ct_algebra.specs.Names.{Name}
-use Rattle.ct_algebra.specs.Actions.{Action}
-use Rattle.ct_algebra.specs.Operators.{Operator, multiple}
-use Rattle.ct_algebra.specs.Membership.{Reduction}
+use Rattle.ct_reduce.proofs.Base.{◌≡◌, ◌<◌, Ok, Some, List, length, sym, ◌∙◌, ap, arith, length-map, Name, Action, Operator, multiple, Reduction}
 use Rattle.ct_checked.specs.Checked.{◌>>=◌}
 use Rattle.ct_checked.specs.Loop.{turn}
-use Rattle.ct_reduce.specs.Reduction.{Reducible, Step, greatest_reducible, checked_plan, multiplied_unless_one, checked_taken, checked_step, reduction_rank, reduction_from, reduction_turn}
+use Rattle.ct_reduce.specs.Reduction.{Reducible, Step, greatest_reducible, checked_plan, multiplied_unless_one, checked_taken, checked_step}
+use Rattle.ct_reduce.specs.Reduction.{reduction_rank, reduction_from, reduction_turn}
 use Rattle.ct_reduce.proofs.FirstReducers.{found_is_first}
 use Rattle.ct_reduce.proofs.Searching.{found}
 use Rattle.ct_reduce.proofs.StepValues.{unless_one_is, taken_is, plan_is}
 use Rattle.ct_reduce.proofs.ReductionEnds.{falls, reduction_is}
+use lib.ListN.{length-set}
 
 module _ (a : Name → Action) (generators : List Operator) where
   pub record Turned (s t : Reduction) : Type 0 where

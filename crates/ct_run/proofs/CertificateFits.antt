@@ -1,17 +1,7 @@
 -- What a report on an algebra's names stands for fits them: a summand for each summed name, a cofactor for each generator.
 -- Main lemmas `certificate_fits` and `setup_length`, cited by `answer_form` and by what a yes means. By the steps that fit.
-use Rattle.std.proofs.Common.{◌≡◌, refl, ℕ, List, [], ◌∷◌, map, length, Ok, sym, ◌∙◌, ap, arith}
-use Rattle.ct_algebra.specs.Names.{Name}
-use Rattle.ct_algebra.specs.Operators.{Operator}
-use Rattle.ct_algebra.specs.Polynomial.{Polynomial}
-use Rattle.ct_algebra.specs.Certificate.{Certificate}
-use Rattle.ct_checked.specs.Checked.{both_fit}
-use Rattle.ct_checked.proofs.Traversals.{each_length}
-use Rattle.ct_ore.specs.Naming.{Naming, actions_of, summed_of}
-use Rattle.ct_problem.specs.declared.report.Report.{Report}
-use Rattle.ct_problem.specs.ReadProblem.{Reading}
-use Rattle.ct_expr.specs.Value.{value_of, checked_polynomial}
-use Rattle.ct_problem.specs.WellFormed.{IsReportOn}
+use Rattle.ct_run.proofs.Base.{◌≡◌, refl, ℕ, List, [], ◌∷◌, map, length, Ok, sym, ◌∙◌, ap, arith, Name, Operator, Polynomial, Certificate, both_fit}
+use Rattle.ct_run.proofs.Base.{each_length, Naming, actions_of, summed_of, Report, Reading, value_of, checked_polynomial, IsReportOn}
 use Rattle.ct_run.specs.Setup.{listed, checked_values, checked_setup}
 use Rattle.ct_run.specs.Checking.{checked_polynomials, checked_quotient, checked_quotients, checked_certificate, summands_of}
 

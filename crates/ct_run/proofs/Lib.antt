@@ -1,3 +1,4 @@
+pub mod Base
 mod Reported
 mod Parts
 mod CertificateFits

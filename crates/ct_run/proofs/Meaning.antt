@@ -1,41 +1,35 @@
 -- What an output means by its outcome. Main lemma `means_of`, at the end, which what a run reported stands on.
 -- Under `check` only a text in the first form is done or answered by a no: tests that pass certify, and the test that fails is of a
 -- place where what it asks is false. Under `reduce` only the reductions of all targets are done.
-use Rattle.std.proofs.Common.{◌≡◌, refl, ℕ, ◌+◌, ◌≤◌, List, length, Option, Some, None, Result, Ok, Err, Bool, true, false, if◌then◌else◌, arith}
-use Rattle.ct_algebra.specs.Operators.{Operator}
-use Rattle.ct_algebra.specs.Certificate.{Certificate}
-use Rattle.ct_algebra.specs.Membership.{Reduction}
-use Rattle.ct_checked.specs.Checked.{Checked}
+use Rattle.ct_run.proofs.Base.{◌≡◌, refl, ℕ, ◌+◌, ◌≤◌, List, length, Option, Some, None, Result, Ok, Err, Bool, true, false, if◌then◌else◌, arith}
+use Rattle.ct_run.proofs.Base.{Operator, Certificate, Reduction, Checked, Naming, IsAlgebra, actions_of, summed_of, Command, Report, Reading}
+use Rattle.ct_run.proofs.Base.{problem_of, IsGens, IsReportOn, summed_act}
 use Rattle.ct_checked.specs.Limits.{largest_norm}
-use Rattle.ct_ore.specs.Naming.{Naming, IsAlgebra, actions_of, summed_of}
-use Rattle.ct_io.specs.declared.command.Command.{Command}
 use Rattle.ct_io.specs.declared.command.Command.TheVariants.{Telescope, Check, Reduce, Test, Close, Member, Gen, Demo}
 use Rattle.ct_problem.specs.declared.fault.BadInput.{BadInput}
 use Rattle.ct_problem.specs.declared.problem.Gens.{Gens}
 use Rattle.ct_problem.specs.declared.problem.Gens.TheVariants.{Listed, Named}
-use Rattle.ct_problem.specs.declared.report.Report.{Report}
 use Rattle.ct_problem.specs.GrammarReport.{ReportStandsFor}
-use Rattle.ct_problem.specs.ReadProblem.{Reading, problem_of}
 use Rattle.ct_problem.specs.ReadReport.{report_of}
-use Rattle.ct_problem.specs.WellFormed.{IsGens, IsReportOn}
 use Rattle.ct_problem.proofs.ReportTexts.{report_spelled}
 use Rattle.ct_problem.proofs.SpelledTexts.{problem_spelled}
-use Rattle.ct_problem.proofs.SummedActions.{summed_act}
 use Rattle.ct_problem.proofs.WellFormedProblems.{IsReading, reading_is}
 use Rattle.ct_problem.proofs.WellFormedReports.{report_formed}
 use Rattle.ct_cert.specs.Testing.{Tested, Fails, Overflows}
 use Rattle.ct_cert.specs.Tests.{tests}
 use Rattle.ct_cert.proofs.Passing.{passing_certifies}
 use Rattle.ct_cert.proofs.Refusing.{failing_refutes}
-use Rattle.ct_run.specs.Lines.{bad_input, not_yet, zero_generator, overflow_in_setup, overflow_in_report, overflow_in_reduction, no_line, overflow_in_test, verdict_line}
+use Rattle.ct_run.specs.Lines.{bad_input, not_yet, zero_generator, overflow_in_setup, overflow_in_report, overflow_in_reduction, no_line}
+use Rattle.ct_run.specs.Lines.{overflow_in_test, verdict_line}
 use Rattle.ct_run.specs.Output.{Output}
 use Rattle.ct_run.specs.Setup.{listed, checked_setup, Plain, Refusal, ZeroGenerator, Overflow, plain_setup}
-use Rattle.ct_run.specs.Checking.{checked_certificate, due_of, found_of, tested, by_certificate, by_generators, checked_form, by_report, is_first, checked_text, Statement, CheckMeans}
+use Rattle.ct_run.specs.Checking.{checked_certificate, due_of, found_of, tested, by_certificate, by_generators, checked_form, by_report, is_first}
+use Rattle.ct_run.specs.Checking.{checked_text, Statement, CheckMeans}
 use Rattle.ct_run.specs.Reducing.{TargetOverflow, checked_reductions, by_reductions, by_setup, reduced, ReduceMeans}
 use Rattle.ct_run.specs.Out.{has_lists, reduced_problem, by_command, by_problem, out, Means}
-use Rattle.ct_run.specs.declared.status.Outcome.TheVariants as outcome
 use Rattle.ct_run.proofs.CertificateFits.{certificate_fits, setup_length}
 use Rattle.ct_run.proofs.ReducedTexts.{reductions_mean}
+use Rattle.ct_run.specs.declared.status.Outcome.TheVariants as outcome
 
 -- ---- `check`
 

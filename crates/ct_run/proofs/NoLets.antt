@@ -1,7 +1,6 @@
 -- A problem says no `let` line where it has none. Main lemma `empty_definitions`, cited by `has_lets`.
-use Rattle.std.proofs.Common.{◌≡◌, ◌↔◌, refl, ℕ, Bool, true, false, IsTrue, List, [], ◌∷◌, length, arith}
+use Rattle.ct_run.proofs.Base.{◌≡◌, ◌↔◌, refl, ℕ, Bool, true, false, IsTrue, List, [], ◌∷◌, length, arith, is_empty, definitions_of}
 use Rattle.ct_problem.specs.declared.problem.LetForm.{LetForm}
-use Rattle.ct_problem.specs.ReadProblem.{is_empty, definitions_of}
 
 -- a list with an element isn't empty
 some_form : (f : LetForm) (fs : List LetForm) (b : Bool) → (IsTrue b ↔ (f ∷ fs ≡ [])) → b ≡ false

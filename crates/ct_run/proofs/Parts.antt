@@ -1,12 +1,9 @@
 -- The parts that names, quotients and factors make, in a loop, and what a certificate of a report keeps of it.
 -- Main lemmas: `pairing_more`, one turn of the loop; `certificate_fits`, that a report on the names makes a certificate for them.
-use Rattle.std.proofs.Common.{◌≡◌, ℕ, ◌<◌, List, [], ◌∷◌, ◌++◌, map, append_assoc, sym, ◌∙◌, ap, subst}
+use Rattle.ct_run.proofs.Base.{◌≡◌, ℕ, ◌<◌, List, [], ◌∷◌, ◌++◌, map, append_assoc, sym, ◌∙◌, ap, subst, name_with, Polynomial, Summand}
 use Rattle.std.proofs.lemmas.List.{map-append}
 use Rattle.std.proofs.lemmas.List.Elements.{All-head, All-tail, All-push}
 use Rattle.std.specs.List.{All}
-use Rattle.ct_algebra.specs.Names.{name_with}
-use Rattle.ct_algebra.specs.Polynomial.{Polynomial}
-use Rattle.ct_algebra.specs.Certificate.{Summand}
 use Rattle.ct_ore.specs.declared.answer.Part.{Part}
 use Rattle.ct_ore.specs.Answers.{summand_of}
 use Rattle.ct_run.specs.declared.values.Fraction.{Fraction}

@@ -1,12 +1,7 @@
 -- What a text of reductions means. Main lemma `reductions_mean`, which what a run means stands on.
-use Rattle.std.proofs.Common.{◌≡◌, refl, subst, ℕ, List, Ok, Err}
-use Rattle.ct_algebra.specs.Names.{Name}
+use Rattle.ct_run.proofs.Base.{◌≡◌, refl, subst, ℕ, List, Ok, Err, Name, Operator, Reduction, ReducesTo, Checked, refused_as, each_means}
 use Rattle.ct_algebra.specs.Actions.{Action}
-use Rattle.ct_algebra.specs.Operators.{Operator}
 use Rattle.ct_algebra.specs.Leading.{IsReduced}
-use Rattle.ct_algebra.specs.Membership.{Reduction, ReducesTo}
-use Rattle.ct_checked.specs.Checked.{Checked, refused_as}
-use Rattle.ct_checked.proofs.Traversals.{each_means}
 use Rattle.ct_reduce.specs.Reduction.{checked_reduction}
 use Rattle.ct_reduce.proofs.ReductionMeans.{reduction_means}
 use Rattle.ct_run.specs.Reducing.{TargetOverflow, checked_reductions, target_reduction, EachReduces}

@@ -1,22 +1,21 @@
 -- A run that reports the output for what it read answers its source. Main lemmas `Answered-front` and `Answered-unwritten`, at the
 -- end, which the proof of `answer_text` cites, with `takes_known`.
 -- The output for the first bytes of a text is that for the text: past the limit it is refused by its length, and within it nothing is cut.
-use Rattle.std.proofs.Common.{◌≡◌, ◌<◌, ◌+◌, Err, ap, sym, ◌∙◌, arith, true, inl, inr, lt-ltb, nat_lt, List, [], ℕ, length, take, Option, Some, None, IfSome, subst, refl}
+use Rattle.ct_run.proofs.Base.{◌≡◌, ◌<◌, ◌+◌, Err, ap, sym, ◌∙◌, arith, true, inl, inr, lt-ltb, nat_lt, List, [], ℕ, length, take, Option, Some, None}
+use Rattle.ct_run.proofs.Base.{IfSome, subst, refl, Command, problem_of, too_long}
 use Rattle.std.proofs.lemmas.Bool.{cases_lt}
 use Rattle.std.proofs.lemmas.List.{length-take, take_all}
-use Rattle.ct_io.specs.declared.command.Command.{Command}
 use Rattle.ct_io.specs.Taking.{TakesAtMost}
 use Rattle.ct_problem.specs.Limits.{most_bytes}
-use Rattle.ct_problem.specs.ReadProblem.{problem_of, too_long}
 use Rattle.ct_run.specs.Output.{Output}
 use Rattle.ct_run.specs.Out.{largest_text, out, Means}
 use Rattle.ct_run.specs.Run.{Reports, Answered}
 use Rattle.ct_run.specs.Status.{status_of, outcome_of}
 use Rattle.ct_run.specs.declared.status.Outcome.{Outcome}
-use Rattle.ct_run.specs.declared.status.Outcome.TheVariants as outcome
 use Rattle.ct_run.specs.declared.status.Status.{Status}
-use Rattle.ct_run.specs.declared.status.Status.TheVariants as statuses
 use Rattle.ct_run.proofs.Meaning.{means_of}
+use Rattle.ct_run.specs.declared.status.Outcome.TheVariants as outcome
+use Rattle.ct_run.specs.declared.status.Status.TheVariants as statuses
 
 -- a text past the limit is refused
 past_limit : (command : Command) (bytes : List ℕ) → largest_text < length bytes → problem_of command bytes ≡ Err too_long

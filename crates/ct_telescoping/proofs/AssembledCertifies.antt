@@ -2,31 +2,17 @@
 -- `telescoper_nonzero` and `telescoper_free`.
 -- The scale times the reduction's identity is the relation's. The telescoper's coefficient at a listed monomial is the
 -- weight of its column; so it is nonzero where a weight is, and free of the summed names as all weights are.
-use Rattle.std.specs.Prelude.{◌≡◌, ◌≢◌, refl, ℕ, zero, suc, ◌<◌, List, [], ◌∷◌, map}
-use Rattle.std.specs.List.{All}
-use Rattle.std.proofs.Common.{sym, ◌∙◌, ap, ap₂, subst, arith}
-use Rattle.std.proofs.lemmas.List.Elements.{All-map, All-weaker}
-use Rattle.ct_algebra.specs.Group.{IsHom, hom_neg}
-use Rattle.ct_algebra.specs.Domain.{product_nonzero}
-use Rattle.ct_algebra.specs.RangeSum.{sum_below}
-use Rattle.ct_algebra.specs.Laws.RangeSums.{hom-sum_below}
+use Rattle.ct_telescoping.proofs.Base.{◌≡◌, ◌≢◌, ℕ, zero, suc, ◌<◌, List, [], ◌∷◌, map, All, sym, ◌∙◌, ap, ap₂, subst, arith, All-map, All-weaker}
+use Rattle.ct_telescoping.proofs.Base.{IsHom, hom_neg, product_nonzero, sum_below, hom-sum_below, EachTerm, EachTerm-weaker, none, at, at-⊕, at-none}
+use Rattle.ct_telescoping.proofs.Base.{EachTerm-⊕, EachTerm-single, Mono, monomials, Name, Polynomial, polys, polys_domain, times, times_is}
+use Rattle.ct_telescoping.proofs.Base.{times_assoc, Action, Operator, operator_group, no_operator, term_of, sum_of_operators, multiple, combination}
+use Rattle.ct_telescoping.proofs.Base.{IsWithout, EachName, IsFreeOfAll, OperatorIsFreeOf, Summand, Certificate, difference_denominator, differences}
+use Rattle.ct_telescoping.proofs.Base.{IsRelation, sums_are, negatives_are, at-term_of, pick-same, pick-other, term_of-single, multiple-sum}
+use Rattle.ct_telescoping.proofs.Base.{multiple-multiple, multiple-no_operator, free_zero, free-sum, same_or_other, each_at}
+use Rattle.std.specs.Prelude.{refl}
 use Rattle.ct_telescoping.specs.Laws.SumsBelow.{sum_below-one}
-use Rattle.ct_algebra.specs.Terms.{EachTerm, EachTerm-weaker}
-use Rattle.ct_algebra.specs.Sums.{none, at, at-⊕, at-none, EachTerm-⊕, EachTerm-single}
-use Rattle.ct_algebra.specs.Monomial.{Mono, monomials}
-use Rattle.ct_algebra.specs.Names.{Name}
-use Rattle.ct_algebra.specs.Polynomial.{Polynomial, polys, polys_domain, times, times_is, times_assoc}
-use Rattle.ct_algebra.specs.Actions.{Action}
-use Rattle.ct_algebra.specs.Operators.{Operator, operator_group, no_operator, term_of, sum_of_operators, multiple, combination}
-use Rattle.ct_algebra.specs.FreeOf.{IsWithout, EachName, IsFreeOfAll, OperatorIsFreeOf}
-use Rattle.ct_algebra.specs.Certificate.{Summand, Certificate, difference_denominator, differences, IsRelation}
-use Rattle.ct_algebra.proofs.OperatorTerms.{sums_are, negatives_are, at-term_of, pick-same, pick-other, term_of-single}
-use Rattle.ct_algebra.proofs.AppliedOperators.{multiple-sum, multiple-multiple, multiple-no_operator}
-use Rattle.ct_algebra.proofs.CoefficientLaws.{free_zero, free-sum}
 use Rattle.ct_telescoping.specs.Columns.{Column, OfMonomial, OfSummand, AreDistinct}
 use Rattle.ct_telescoping.specs.Assembly.{telescoper_term, telescoper_of, residual, scaled_summand, reduced_by}
-use Rattle.ct_algebra.proofs.MonomialLists.{same_or_other}
-use Rattle.ct_algebra.proofs.TermLawProofs.{each_at}
 
 -- ---- the relation
 

@@ -1,20 +1,10 @@
 -- A certificate by the vectors of its names: main lemma `relation_telescopes`. Where the generators kill x, and each name's
 -- vector, times the denominator, is what the numerator makes of x, the telescoper makes the sum of the differences.
 -- The law `certificate_telescopes` of ct_algebra says so of what certifies; here the telescoper may be zero.
-use Rattle.std.specs.Prelude.{◌≡◌, List, [], ◌∷◌, map}
-use Rattle.std.specs.List.{All}
-use Rattle.std.proofs.Common.{sym, ◌∙◌, ap, refl}
-use Rattle.std.proofs.lemmas.List.Elements.{All-head, All-tail}
-use Rattle.ct_algebra.specs.Ore.{Module}
-use Rattle.ct_algebra.specs.Names.{Name}
-use Rattle.ct_algebra.specs.Polynomial.{Polynomial, polys, polys_domain, times}
-use Rattle.ct_algebra.specs.Actions.{Action, polynomials}
-use Rattle.ct_algebra.specs.Operators.{Operator, apply, EachKills}
-use Rattle.ct_algebra.specs.Field.{field, coefficients, plain}
-use Rattle.ct_algebra.specs.Restriction.{restricted_cancel}
-use Rattle.ct_algebra.specs.Certificate.{Summand, Certificate, difference_denominator, differences, IsRelation}
-use Rattle.ct_algebra.specs.Telescoping.{over_polynomials, difference, sum_of_differences, EachCleared}
-use Rattle.ct_algebra.proofs.AppliedOperators.{apply-sum, apply-multiple, apply-combination}
+use Rattle.ct_telescoping.proofs.Base.{◌≡◌, List, [], ◌∷◌, map, All, sym, ◌∙◌, ap, refl, All-head, All-tail, Module, Name, Polynomial, polys}
+use Rattle.ct_telescoping.proofs.Base.{polys_domain, times, Action, polynomials, Operator, apply, EachKills, field, coefficients, plain}
+use Rattle.ct_telescoping.proofs.Base.{restricted_cancel, Summand, Certificate, difference_denominator, differences, IsRelation, over_polynomials}
+use Rattle.ct_telescoping.proofs.Base.{difference, sum_of_differences, EachCleared, apply-sum, apply-multiple, apply-combination}
 use Rattle.ct_algebra.proofs.CertificateLawProofs.{apply-differences}
 use Rattle.ct_telescoping.proofs.NameSums.{sum_of_names}
 

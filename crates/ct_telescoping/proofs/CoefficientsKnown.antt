@@ -1,19 +1,9 @@
 -- A polynomial by its coefficients in some of the names. Main lemmas: `zero_of_coefficients` (where all are zero it is zero)
 -- and `nonzero_in_terms` (a coefficient is nonzero only where some term has its monomial).
-use Rattle.std.specs.Prelude.{◌≡◌, ◌≢◌, List, ◌⊎◌, ℤ, [], ◌∷◌, map}
-use Rattle.std.specs.List.{Contains}
-use Rattle.std.proofs.Common.{sym, ◌∙◌, ap, subst, inl, inr}
-use Rattle.ct_algebra.specs.Terms.{EachTerm, EachTerm-weaker}
-use Rattle.ct_algebra.specs.Sums.{at-none, same_sum, same_hom_at}
-use Rattle.ct_algebra.specs.Monomial.{Mono, monomials}
-use Rattle.ct_algebra.specs.WholeNumbers.{int_group}
-use Rattle.ct_algebra.specs.Names.{Name}
-use Rattle.ct_algebra.specs.Polynomial.{Polynomial, coefficient, polys, poly_set}
-use Rattle.ct_algebra.specs.Substitution.{term, term_is, P}
-use Rattle.ct_algebra.specs.Coefficients.{inside, outside, coefficient_in}
-use Rattle.ct_algebra.proofs.MonomialLists.{cmp-other, same_or_other}
-use Rattle.ct_algebra.proofs.CoefficientLaws.{coefficient_in_hom, coefficient_in-term}
-use Rattle.ct_algebra.proofs.CoefficientLawProofs.{term_in-same, coefficients_in_names}
+use Rattle.ct_telescoping.proofs.Base.{◌≡◌, ◌≢◌, List, ◌⊎◌, ℤ, [], ◌∷◌, map, Contains, sym, ◌∙◌, ap, subst, inl, inr, EachTerm, EachTerm-weaker}
+use Rattle.ct_telescoping.proofs.Base.{at-none, same_sum, same_hom_at, Mono, monomials, int_group, Name, Polynomial, coefficient, polys, poly_set}
+use Rattle.ct_telescoping.proofs.Base.{term, term_is, P, inside, outside, coefficient_in, cmp-other, same_or_other, coefficient_in_hom}
+use Rattle.ct_telescoping.proofs.Base.{coefficient_in-term, term_in-same, coefficients_in_names}
 use Rattle.ct_telescoping.proofs.ListParts.{contains_first, contains_later}
 
 module _ (js : List Name) where

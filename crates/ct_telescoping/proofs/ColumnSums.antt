@@ -1,32 +1,21 @@
 -- Weighted columns, added up: main lemma `columns_sum`. With weights free of the summed names, the sum of the columns'
 -- vectors is the telescoper's vector, less the differences of the certificates' vectors (`certificate_vector-is`).
 -- Differences are linear over what is free of the name.
-use Rattle.std.specs.Prelude.{◌≡◌, ◌≢◌, ℕ, ◌<◌, pos, Bool, true, false, List, cond}
-use Rattle.std.specs.List.{Contains}
-use Rattle.std.proofs.Common.{sym, ◌∙◌, ap, ap₂, refl}
-use Rattle.ct_algebra.specs.Group.{IsHom, hom_zero, zero_add, neg_zero, neg_sum, swap_sum}
-use Rattle.ct_algebra.specs.RangeSum.{sum_below}
-use Rattle.ct_algebra.specs.Laws.RangeSums.{sum_below-same, hom-sum_below}
-use Rattle.ct_algebra.specs.Ore.{Module}
-use Rattle.ct_algebra.specs.Names.{Name, power}
-use Rattle.ct_algebra.specs.Polynomial.{Polynomial, polys, polys_domain, times, times_is}
-use Rattle.ct_algebra.specs.Substitution.{term}
-use Rattle.ct_algebra.specs.Actions.{Action, Shift, Derive, Still, by_action, polynomials}
-use Rattle.ct_algebra.specs.Operators.{no_operator, term_of, apply}
-use Rattle.ct_algebra.specs.FreeOf.{IsFreeOf, IsFreeOfAll}
-use Rattle.ct_algebra.specs.Field.{field, coefficients, plain}
-use Rattle.ct_algebra.specs.Restriction.{scale-divided}
-use Rattle.ct_algebra.specs.Telescoping.{over_polynomials, difference}
+use Rattle.ct_telescoping.proofs.Base.{◌≡◌, ◌≢◌, ℕ, ◌<◌, pos, Bool, true, false, List, cond, Contains, sym, ◌∙◌, ap, ap₂, refl, IsHom, hom_zero}
+use Rattle.ct_telescoping.proofs.Base.{zero_add, neg_zero, neg_sum, swap_sum, sum_below, sum_below-same, hom-sum_below, Module, Name, power}
+use Rattle.ct_telescoping.proofs.Base.{Polynomial, polys, polys_domain, times, times_is, term, Action, Shift, Derive, Still, by_action, polynomials}
+use Rattle.ct_telescoping.proofs.Base.{no_operator, term_of, apply, IsFreeOf, IsFreeOfAll, field, coefficients, plain, scale-divided}
+use Rattle.ct_telescoping.proofs.Base.{over_polynomials, difference, apply-no_operator, apply-term_of, apply_hom, scale_hom, scale-zero}
+use Rattle.ct_telescoping.proofs.Base.{scale-zero_value, scale-neg, scale-scale}
 use Rattle.ct_algebra.proofs.FreeOfLaws.{sigma-free, delta-free}
-use Rattle.ct_algebra.proofs.AppliedOperators.{apply-no_operator, apply-term_of, apply_hom}
-use Rattle.ct_algebra.proofs.ModuleLaws.{scale_hom, scale-zero, scale-zero_value, scale-neg, scale-scale}
 use Rattle.ct_telescoping.specs.Rising.{IsOnce}
 use Rattle.ct_telescoping.specs.Laws.SumsBelow.{sum_below-sum, sum_below-neg}
 use Rattle.ct_telescoping.specs.Columns.{Column, OfMonomial, OfSummand}
 use Rattle.ct_telescoping.specs.Assembly.{is_same, telescoper_term, numerator_term, telescoper_of, numerator_of}
 use Rattle.ct_telescoping.specs.ColumnVectors.{over_denominator, column_vector}
 use Rattle.ct_telescoping.proofs.NamesIn.{each_contained}
-use Rattle.ct_telescoping.proofs.NameSums.{is_same-self, is_same-true, is_same-other, sum_of_names, names-same, names-zero, names-one, names-sum_below}
+use Rattle.ct_telescoping.proofs.NameSums.{is_same-self, is_same-true, is_same-other, sum_of_names, names-same, names-zero, names-one}
+use Rattle.ct_telescoping.proofs.NameSums.{names-sum_below}
 
 -- ---- differences are linear over what is free of the name
 

@@ -1,12 +1,6 @@
 -- What a weighted column adds to a numerator is additive in the weight: main lemma `numerator_term-sum`.
-use Rattle.std.specs.Prelude.{◌≡◌, pos, Bool, true, false, cond}
-use Rattle.std.proofs.Common.{sym, ◌∙◌, ap, ap₂}
-use Rattle.ct_algebra.specs.Ring.{add_mul}
-use Rattle.ct_algebra.specs.Names.{Name}
-use Rattle.ct_algebra.specs.Polynomial.{Polynomial, polys, times, times_is}
-use Rattle.ct_algebra.specs.Substitution.{term}
-use Rattle.ct_algebra.specs.Operators.{operator_group, no_operator, term_of}
-use Rattle.ct_algebra.proofs.OperatorTerms.{term_of_hom}
+use Rattle.ct_telescoping.proofs.Base.{◌≡◌, pos, Bool, true, false, cond, sym, ◌∙◌, ap, ap₂, add_mul, Name, Polynomial, polys, times, times_is, term}
+use Rattle.ct_telescoping.proofs.Base.{operator_group, no_operator, term_of, term_of_hom}
 use Rattle.ct_telescoping.specs.Columns.{Column, OfMonomial, OfSummand}
 use Rattle.ct_telescoping.specs.Assembly.{is_same, numerator_term}
 

@@ -1,23 +1,18 @@
 -- The list of the columns of a support: main lemmas `columns_distinct` (none is listed twice), `columns_sound` and
 -- `columns_complete` (it has what `IsColumnOf` says), and `support_has_shape`: a certificate of the support has only terms
 -- that are listed. From the number of the certificates' columns on, the columns are the telescoper's.
-use Rattle.std.specs.Prelude.{◌≡◌, refl, ℕ, zero, suc, ◌+◌, ◌-◌, ◌<◌, ◌≤◌, List, [], ◌∷◌, ◌++◌, length, map, get_or, ◌⊎◌}
-use Rattle.std.specs.List.{Contains}
-use Rattle.std.proofs.Common.{sym, ◌∙◌, ap, subst, arith, inl, inr}
-use Rattle.std.proofs.lemmas.List.{get_or_default, get_or_append_left, get_or-append_right}
-use Rattle.std.proofs.lemmas.List.Elements.{Contains-append_left, Contains-append_right, Contains-append_cases, Contains-get_or}
-use Rattle.ct_algebra.specs.Terms.{EachTerm-weaker}
-use Rattle.ct_algebra.specs.Coefficients.{inside}
-use Rattle.ct_algebra.specs.Monomial.{Mono, unit}
-use Rattle.ct_algebra.specs.Names.{Name}
-use Rattle.ct_algebra.specs.Actions.{Action}
-use Rattle.ct_algebra.specs.Certificate.{Certificate}
-use Rattle.ct_algebra.proofs.CoefficientLawProofs.{inside_within}
+use Rattle.ct_telescoping.proofs.Base.{◌≡◌, ℕ, zero, suc, ◌+◌, ◌-◌, ◌<◌, ◌≤◌, List, [], ◌∷◌, ◌++◌, length, map, get_or, ◌⊎◌, Contains, sym, ◌∙◌, ap}
+use Rattle.ct_telescoping.proofs.Base.{subst, arith, inl, inr, get_or_default, get_or_append_left, get_or-append_right, Contains-append_left}
+use Rattle.ct_telescoping.proofs.Base.{Contains-append_right, Contains-append_cases, Contains-get_or, EachTerm-weaker, inside, Mono, unit, Name}
+use Rattle.ct_telescoping.proofs.Base.{Action, Certificate, inside_within}
+use Rattle.std.specs.Prelude.{refl}
 use Rattle.ct_telescoping.specs.Vector.{listed}
 use Rattle.ct_telescoping.specs.Rising.{IsOnce}
 use Rattle.ct_telescoping.specs.NoTelescoper.{IsOfSupport}
-use Rattle.ct_telescoping.specs.Columns.{Column, OfMonomial, OfSummand, column_at, columns_of_name, certificate_columns, monomials_in, free_names, columns_of_support, IsColumnOf, IsOfTelescoper, IsListed, AreDistinct}
-use Rattle.ct_telescoping.proofs.ListParts.{contains_map, contains_map_cases, contains_flat_map, contains_flat_map_cases, once_append, once_map, once_flat_map, once_at}
+use Rattle.ct_telescoping.specs.Columns.{Column, OfMonomial, OfSummand, column_at, columns_of_name, certificate_columns, monomials_in, free_names}
+use Rattle.ct_telescoping.specs.Columns.{columns_of_support, IsColumnOf, IsOfTelescoper, IsListed, AreDistinct}
+use Rattle.ct_telescoping.proofs.ListParts.{contains_map, contains_map_cases, contains_flat_map, contains_flat_map_cases, once_append, once_map}
+use Rattle.ct_telescoping.proofs.ListParts.{once_flat_map, once_at}
 use Rattle.ct_telescoping.proofs.OrderedLists.{listed_contains, contains_listed}
 use Rattle.ct_telescoping.proofs.RisingLists.{once_of_rises}
 use Rattle.ct_telescoping.proofs.NamesIn.{contained_each, monomials_in-listing, IsIn-free, free-IsIn}

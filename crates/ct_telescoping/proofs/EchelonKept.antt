@@ -2,19 +2,15 @@
 -- over and `IsEchelon-after` for one with a pivot.
 -- A column that is zero in two rows stays zero in the row that a step makes of them; so what was zero before a pivot's
 -- column stays zero, in unused rows and in the rows of older pivots.
-use Rattle.std.specs.Prelude.{◌≡◌, ◌≢◌, ℕ, suc, ◌<◌, ◌≤◌, List, [], ◌∷◌, ◌++◌, ◌⊎◌}
-use Rattle.std.specs.List.{Contains}
-use Rattle.std.proofs.Common.{sym, ◌∙◌, ap, ap₂, subst, arith, inl, inr, eq-or-lt_of_le}
-use Rattle.std.proofs.lemmas.List.Elements.{Contains-append_left, Contains-push, Contains-push_cases}
-use native.Mathlib.Decide.{ℕ_discrete}
-use Rattle.ct_algebra.specs.Group.{neg_zero}
-use Rattle.ct_algebra.specs.Ring.{Ring, mul_zero}
-use Rattle.ct_algebra.specs.Domain.{IsDomain, zero_factor}
+use Rattle.ct_telescoping.proofs.Base.{◌≡◌, ◌≢◌, ℕ, suc, ◌<◌, ◌≤◌, List, [], ◌∷◌, ◌++◌, ◌⊎◌, Contains, sym, ◌∙◌, ap, ap₂, subst, arith, inl, inr}
+use Rattle.ct_telescoping.proofs.Base.{eq-or-lt_of_le, Contains-append_left, Contains-push, Contains-push_cases, neg_zero, Ring, mul_zero, IsDomain}
+use Rattle.ct_telescoping.proofs.Base.{zero_factor}
 use Rattle.ct_telescoping.specs.Elimination.{State, Step, first_state}
 use Rattle.ct_telescoping.specs.Echelon.{Pivot, IsUnused, HasPivot, IsCleared, IsStaggered, IsEchelon}
 use Rattle.ct_telescoping.proofs.ListParts.{contains_none}
 use Rattle.ct_telescoping.proofs.PivotLists.{in_order-push}
 use Rattle.ct_telescoping.proofs.RowsKept.{KeepsMatrix-first, KeepsMatrix-after}
+use native.Mathlib.Decide.{ℕ_discrete}
 
 module _ {A : Type 0} (R : Ring A) (D : IsDomain R) (n m : ℕ) (matrix : ℕ → ℕ → A) where
   open R use {zero, ◌+◌, ◌*◌, neg}

@@ -2,13 +2,8 @@
 -- isolate the telescoper's columns; and `null_vector`, where one is: a null vector of the left side is one of the matrix.
 -- A pivot's row is zero at every column before the pivot's, at every other pivot's column, and so, from `first` on,
 -- at every column but its own.
-use Rattle.std.specs.Prelude.{◌≡◌, ◌≢◌, ℕ, ◌<◌, ◌≤◌, List, ◌⊎◌}
-use Rattle.std.specs.List.{Contains}
-use Rattle.std.proofs.Common.{sym, ◌∙◌, ap, arith, inl, inr}
-use Rattle.ct_algebra.specs.Ring.{Ring, mul_zero, zero_mul, mul_left_comm}
-use Rattle.ct_algebra.specs.Domain.{IsDomain, zero_factor}
-use Rattle.ct_algebra.specs.RangeSum.{sum_below}
-use Rattle.ct_algebra.specs.Laws.RangeSums.{sum_below-same, mul-sum_below}
+use Rattle.ct_telescoping.proofs.Base.{◌≡◌, ◌≢◌, ℕ, ◌<◌, ◌≤◌, List, ◌⊎◌, Contains, sym, ◌∙◌, ap, arith, inl, inr, Ring, mul_zero, zero_mul}
+use Rattle.ct_telescoping.proofs.Base.{mul_left_comm, IsDomain, zero_factor, sum_below, sum_below-same, mul-sum_below}
 use Rattle.ct_telescoping.specs.Laws.SumsBelow.{sum_below-zero, sum_below-two}
 use Rattle.ct_telescoping.specs.Elimination.{State, row_times, matrix_times}
 use Rattle.ct_telescoping.specs.Echelon.{Pivot, IsUnused, HasPivot, IsEchelon, IsFree, IsNullVector}

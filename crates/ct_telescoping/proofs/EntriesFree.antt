@@ -3,24 +3,15 @@
 -- entry of a null vector whose entry at the free column is without it.
 -- A step multiplies and subtracts entries and divides exactly, and an exact quotient of what is without the name is without
 -- it: `free_quotient`, which also serves division by contents and by candidates of slimming.
-use Rattle.std.specs.Prelude.{◌≡◌, ◌≢◌, ℕ, ◌<◌, Bool, true, false, cond, eqb, List, [], ◌∷◌, ◌⊎◌}
-use Rattle.std.proofs.Common.{sym, ◌∙◌, ap, subst, inl, inr, refl}
-use native.Mathlib.Decide.{ℕ_discrete}
-use Rattle.ct_algebra.specs.Group.{neg_unique, neg_zero, neg_neg}
-use Rattle.ct_algebra.specs.Domain.{product_nonzero}
-use Rattle.ct_algebra.specs.Sums.{at-negated}
-use Rattle.ct_algebra.specs.Monomial.{exp, monomials}
-use Rattle.ct_algebra.specs.WholeNumbers.{int_group}
-use Rattle.ct_algebra.specs.Names.{Name, place}
-use Rattle.ct_algebra.specs.Polynomial.{Polynomial, polys, polys_domain}
-use Rattle.ct_algebra.specs.FreeOf.{IsFreeOf}
-use Rattle.ct_algebra.proofs.CoefficientLaws.{free_zero, free-sum}
+use Rattle.ct_telescoping.proofs.Base.{◌≡◌, ◌≢◌, ℕ, ◌<◌, Bool, true, false, cond, eqb, List, [], ◌∷◌, ◌⊎◌, sym, ◌∙◌, ap, subst, inl, inr, refl}
+use Rattle.ct_telescoping.proofs.Base.{neg_unique, neg_zero, neg_neg, product_nonzero, at-negated, exp, monomials, int_group, Name, place, Polynomial}
+use Rattle.ct_telescoping.proofs.Base.{polys, polys_domain, IsFreeOf, free_zero, free-sum, by_values}
 use Rattle.ct_telescoping.specs.Elimination.{State, Step, first_state}
 use Rattle.ct_telescoping.specs.Echelon.{Pivot, HasPivot, IsEchelon, IsNullVector}
 use Rattle.ct_telescoping.specs.EntriesFree.{EntriesAreFree}
-use Rattle.ct_algebra.proofs.TermLawProofs.{by_values}
 use Rattle.ct_telescoping.proofs.FreeFactors.{free-times, free_factor, free_one}
 use Rattle.ct_telescoping.proofs.PivotLists.{column_used}
+use native.Mathlib.Decide.{ℕ_discrete}
 
 pub zero_or_not : (p : Polynomial) → (p ≡ polys.zero) ⊎ (p ≢ polys.zero)
 zero_or_not p = by (polys.is_zero p) refl

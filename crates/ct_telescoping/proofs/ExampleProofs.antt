@@ -1,22 +1,12 @@
 -- The proof of the example: the list of one derivation is tested.
-use Rattle.std.specs.Prelude.{◌≡◌, ◌≢◌, refl, [], ◌∷◌, cond, ◌⊎◌}
-use Rattle.std.specs.List.{All}
-use Rattle.std.proofs.Common.{sym, ◌∙◌, ap, subst, arith, lit<, eq-eqb, inl, inr, Less}
-use Rattle.std.proofs.lemmas.List.Elements.{All-cons, All-nil}
-use Rattle.ct_algebra.specs.Terms.{EachTerm, EachTerm-weaker}
-use Rattle.ct_algebra.specs.Sums.{at, at-none, EachTerm-single}
-use Rattle.ct_algebra.specs.Monomial.{Mono, exp, exp-·, exp-unit, unit, ◌·◌, ·_comm, ·-unit, mono_cmp, monomials, total, total-·}
-use Rattle.ct_algebra.specs.Names.{Name, x0, x1, x2, x3, x4, x5, place, place_small, symbol, exp-symbol, power-symbol}
-use Rattle.ct_algebra.specs.Polynomial.{Polynomial, polys, polys_domain}
-use Rattle.ct_algebra.specs.Actions.{Still, polynomials}
-use Rattle.ct_algebra.specs.Ore.{Module}
-use Rattle.ct_algebra.specs.Operators.{Operator, no_operator}
-use Rattle.ct_algebra.specs.FreeOf.{IsWithout, IsOver}
-use Rattle.ct_algebra.specs.Leading.{OperatorLeads, LeadingDivides, IsIrreducible}
-use Rattle.ct_algebra.specs.Field.{K, field, coefficients}
+use Rattle.ct_telescoping.proofs.Base.{◌≡◌, ◌≢◌, [], ◌∷◌, cond, ◌⊎◌, All, sym, ◌∙◌, ap, subst, arith, lit<, eq-eqb, inl, inr, Less, All-cons, All-nil}
+use Rattle.ct_telescoping.proofs.Base.{EachTerm, EachTerm-weaker, at, at-none, EachTerm-single, Mono, exp, exp-·, exp-unit, unit, ◌·◌, ·_comm, ·-unit}
+use Rattle.ct_telescoping.proofs.Base.{mono_cmp, monomials, total, total-·, Name, x0, x1, x2, x3, x4, x5, place, place_small, symbol, exp-symbol}
+use Rattle.ct_telescoping.proofs.Base.{power-symbol, Polynomial, polys, polys_domain, Still, polynomials, Module, Operator, no_operator, IsWithout}
+use Rattle.ct_telescoping.proofs.Base.{IsOver, OperatorLeads, LeadingDivides, IsIrreducible, K, field, coefficients, at-term_of, pick-same}
+use Rattle.ct_telescoping.proofs.Base.{pick-other, term_of-single, apply-term_of}
+use Rattle.std.specs.Prelude.{refl}
 use Rattle.ct_algebra.proofs.LeadingTerms.{leads_of}
-use Rattle.ct_algebra.proofs.OperatorTerms.{at-term_of, pick-same, pick-other, term_of-single}
-use Rattle.ct_algebra.proofs.AppliedOperators.{apply-term_of}
 use Rattle.ct_telescoping.specs.Vector.{Vector, same_vector, entry-zero_vector, vector_group}
 use Rattle.ct_telescoping.specs.StaircaseModule.{RowsCommute, staircase_module, start}
 use Rattle.ct_telescoping.specs.Staircase.{HasOperators, IsStaircaseOf, StartsUnits}

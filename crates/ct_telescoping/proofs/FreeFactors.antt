@@ -2,23 +2,14 @@
 -- Main lemmas `free-times` and `free_factor`.
 -- Where a name's exponents are at most d in p and at most e in q, the coefficient of its power d + e in a product without
 -- the name is zero unless d + e is 0, and so one of both bounds can be lowered (`top-times` of TopCoefficients).
-use Rattle.std.specs.Prelude.{◌≡◌, ◌≢◌, refl, ℕ, zero, suc, ◌+◌, ◌≤◌, true, List, [], ◌∷◌, ℤ, pos, ◌⊎◌}
-use Rattle.std.proofs.Common.{sym, ◌∙◌, ap, arith, subst, inl, inr}
-use native.Mathlib.Decide.{ℕ_discrete}
-use Rattle.ct_algebra.specs.Ring.{mul_zero, zero_mul}
-use Rattle.ct_algebra.specs.Terms.{EachTerm, EachTerm-weaker}
-use Rattle.ct_algebra.specs.Sums.{EachTerm-single, at, at-none, same_hom_at, has_none, none_of}
-use Rattle.ct_algebra.specs.Monomial.{Mono, exp, exp-unit, unit, monomials}
-use Rattle.ct_algebra.specs.WholeNumbers.{int_group}
-use Rattle.ct_algebra.specs.Names.{Name, place, place_small}
-use Rattle.ct_algebra.specs.Polynomial.{Polynomial, polys, polys_domain, poly_set}
-use Rattle.ct_algebra.specs.Substitution.{P, term_is, one_is, number_is}
-use Rattle.ct_algebra.specs.FreeOf.{IsFreeOf}
-use Rattle.ct_algebra.specs.Coefficients.{outside, coefficient_in}
-use Rattle.ct_algebra.proofs.CoefficientLaws.{coefficient_in_hom, coefficient_in-product}
-use Rattle.ct_algebra.proofs.CoefficientLawProofs.{coefficients_in_names}
-use Rattle.ct_algebra.proofs.TermLawProofs.{by_values}
+use Rattle.ct_telescoping.proofs.Base.{◌≡◌, ◌≢◌, ℕ, zero, suc, ◌+◌, ◌≤◌, true, List, [], ◌∷◌, ℤ, pos, ◌⊎◌, sym, ◌∙◌, ap, arith, subst, inl, inr}
+use Rattle.ct_telescoping.proofs.Base.{mul_zero, zero_mul, EachTerm, EachTerm-weaker, EachTerm-single, at, at-none, same_hom_at, has_none, none_of}
+use Rattle.ct_telescoping.proofs.Base.{Mono, exp, exp-unit, unit, monomials, int_group, Name, place, place_small, Polynomial, polys, polys_domain}
+use Rattle.ct_telescoping.proofs.Base.{poly_set, P, term_is, one_is, number_is, IsFreeOf, outside, coefficient_in, coefficient_in_hom}
+use Rattle.ct_telescoping.proofs.Base.{coefficient_in-product, coefficients_in_names, by_values}
+use Rattle.std.specs.Prelude.{refl}
 use Rattle.ct_telescoping.proofs.TopCoefficients.{power_at, coefficient_at, IsBounded, inside_is, coefficient-other, top-times}
+use native.Mathlib.Decide.{ℕ_discrete}
 
 module _ (j : Name) where
   -- ---- where a coefficient is zero no term has its power

@@ -1,3 +1,4 @@
+pub mod Base
 -- lists, monomials in order, names, coefficients
 pub mod ListParts
 pub mod OrderedLists

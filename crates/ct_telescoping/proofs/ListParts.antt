@@ -1,9 +1,8 @@
 -- What is in lists made of others, and lists without repetition.
 -- Main lemma `once_at`: in a list without repetition equal elements stand at one place.
-use Rattle.std.specs.Prelude.{◌≡◌, ℕ, zero, suc, ◌<◌, Bool, true, false, cond, List, [], ◌∷◌, ◌++◌, length, map, get_or, ◌⊎◌}
-use Rattle.std.specs.List.{Contains, filter, flat_map}
-use Rattle.std.proofs.Common.{refl, sym, ◌∙◌, ap, subst, arith, inl, inr}
-use Rattle.std.proofs.lemmas.List.Elements.{Contains-append_left, Contains-append_right, Contains-append_cases, Contains-get_or}
+use Rattle.ct_telescoping.proofs.Base.{◌≡◌, ℕ, zero, suc, ◌<◌, Bool, true, false, cond, List, [], ◌∷◌, ◌++◌, length, map, get_or, ◌⊎◌, Contains}
+use Rattle.ct_telescoping.proofs.Base.{filter, flat_map, refl, sym, ◌∙◌, ap, subst, arith, inl, inr, Contains-append_left, Contains-append_right}
+use Rattle.ct_telescoping.proofs.Base.{Contains-append_cases, Contains-get_or}
 use Rattle.ct_telescoping.specs.Rising.{IsOnce}
 
 pub contains_first : {X : Type 0} (x : X) (xs : List X) → Contains (x ∷ xs) x

@@ -1,15 +1,8 @@
 -- The first generator that divides a monomial, moved there: main lemmas `lead` (the monomial leads it) and `one_moved` (there
 -- is one such operator). The lower terms follow the leading one (`canonical`).
-use Rattle.std.specs.Prelude.{◌≡◌, ℕ, ◌+◌, ◌<◌, List, ◌∷◌, get_or, ◌⊎◌}
-use Rattle.std.proofs.Common.{sym, ◌∙◌, ap, subst, arith, inl, inr}
-use Rattle.ct_algebra.specs.Terms.{IsCanonical}
-use Rattle.ct_algebra.specs.Monomial.{Mono, exp, exp-·, same_mono, monomials, ◌·◌}
-use Rattle.ct_algebra.specs.Names.{Name}
-use Rattle.ct_algebra.specs.Polynomial.{Polynomial, polys}
-use Rattle.ct_algebra.specs.Actions.{Action}
-use Rattle.ct_algebra.specs.Operators.{Operator, no_operator, term_of, product_of}
-use Rattle.ct_algebra.specs.Leading.{OperatorLeads, LeadingDivides}
-use Rattle.ct_algebra.proofs.ShiftedLeading.{shifted_leads}
+use Rattle.ct_telescoping.proofs.Base.{◌≡◌, ℕ, ◌+◌, ◌<◌, List, ◌∷◌, get_or, ◌⊎◌, sym, ◌∙◌, ap, subst, arith, inl, inr, IsCanonical, Mono, exp, exp-·}
+use Rattle.ct_telescoping.proofs.Base.{same_mono, monomials, ◌·◌, Name, Polynomial, polys, Action, Operator, no_operator, term_of, product_of}
+use Rattle.ct_telescoping.proofs.Base.{OperatorLeads, LeadingDivides, shifted_leads}
 use Rattle.ct_telescoping.specs.Tested.{FirstReducer}
 
 module _ (a : Name → Action) (generators : List Operator) where

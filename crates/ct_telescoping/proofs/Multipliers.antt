@@ -1,13 +1,7 @@
 -- One row of multipliers: what a step and a division of the row do to the row that it gives, and how both are undone.
 -- Main lemma `isolated`: a vector that the matrix sends to zero is zero at each isolated column.
-use Rattle.std.specs.Prelude.{◌≡◌, ℕ, ◌<◌, ◌≢◌}
-use Rattle.std.proofs.Common.{sym, ◌∙◌, ap, ap₂, refl}
-use Rattle.ct_algebra.specs.Group.{Group, neg_zero}
-use Rattle.ct_algebra.specs.Ring.{Ring, mul_zero, zero_mul}
-use Rattle.ct_algebra.specs.Domain.{IsDomain, mul_cancel, zero_factor}
-use Rattle.ct_algebra.specs.RingTactic.{ring3, ring5, reify}
-use Rattle.ct_algebra.specs.RangeSum.{sum_below}
-use Rattle.ct_algebra.specs.Laws.RangeSums.{sum_below-same, mul-sum_below}
+use Rattle.ct_telescoping.proofs.Base.{◌≡◌, ℕ, ◌<◌, ◌≢◌, sym, ◌∙◌, ap, ap₂, refl, Group, neg_zero, Ring, mul_zero, zero_mul, IsDomain, mul_cancel}
+use Rattle.ct_telescoping.proofs.Base.{zero_factor, ring3, ring5, reify, sum_below, sum_below-same, mul-sum_below}
 use Rattle.ct_telescoping.specs.Laws.SumsBelow.{sum_below-zero, sum_below-sum, sum_below-neg, sum_below-sum_below, sum_below-one}
 use Rattle.ct_telescoping.specs.Elimination.{row_times, matrix_times, Gives, Annuls}
 use Rattle.ct_telescoping.specs.Refutation.{Isolates}

@@ -1,11 +1,7 @@
 -- Sums over the summed names. Main lemmas: `names-one`, a sum with one term that is not zero; `names-sum_below`, by which it
 -- goes inside a sum over numbers.
-use Rattle.std.specs.Prelude.{◌≡◌, ℕ, ◌⊎◌, true, false, List, [], ◌∷◌}
-use Rattle.std.specs.List.{Contains}
-use Rattle.std.proofs.Common.{sym, ◌∙◌, ap, ap₂, refl, subst, inl, inr, eq-eqb, ne_eqb, eqb-true}
-use Rattle.ct_algebra.specs.Group.{Group, zero_add}
-use Rattle.ct_algebra.specs.RangeSum.{sum_below}
-use Rattle.ct_algebra.specs.Names.{Name, place, same_place}
+use Rattle.ct_telescoping.proofs.Base.{◌≡◌, ℕ, ◌⊎◌, true, false, List, [], ◌∷◌, Contains, sym, ◌∙◌, ap, ap₂, refl, subst, inl, inr, eq-eqb, ne_eqb}
+use Rattle.ct_telescoping.proofs.Base.{eqb-true, Group, zero_add, sum_below, Name, place, same_place}
 use Rattle.ct_telescoping.specs.Rising.{IsOnce}
 use Rattle.ct_telescoping.specs.Laws.SumsBelow.{sum_below-zero, sum_below-sum}
 use Rattle.ct_telescoping.specs.Assembly.{is_same}

@@ -1,16 +1,11 @@
 -- Monomials in some of the names. Main lemmas: `monomials_in-listing`, and `IsIn-free`, `free-IsIn`: the monomials in the free
 -- names are the free monomials. `each_contained` and `contained_each` go between facts about each name of a list.
-use Rattle.std.specs.Prelude.{◌≡◌, refl, ℕ, zero, suc, ◌≤◌, Bool, true, false, cond, List, [], ◌∷◌, ◌⊎◌}
-use Rattle.std.specs.List.{Contains}
-use Rattle.std.proofs.Common.{sym, ◌∙◌, ap, subst, inl, inr, Ordering, Less, Equal, Greater}
-use Rattle.ct_algebra.specs.Terms.{by_order}
-use Rattle.ct_algebra.specs.Coefficients.{is_chosen, inside}
+use Rattle.ct_telescoping.proofs.Base.{◌≡◌, ℕ, zero, suc, ◌≤◌, Bool, true, false, cond, List, [], ◌∷◌, ◌⊎◌, Contains, sym, ◌∙◌, ap, subst, inl, inr}
+use Rattle.ct_telescoping.proofs.Base.{Ordering, Less, Equal, Greater, by_order, is_chosen, inside, Mono, exp, mono_cmp, mono_tied, mono_same, total}
+use Rattle.ct_telescoping.proofs.Base.{Name, place, Action, Shift, Derive, Still, by_action, IsWithout, EachName, chosen_of, one_of, inside_whole}
+use Rattle.ct_telescoping.proofs.Base.{inside_within}
+use Rattle.std.specs.Prelude.{refl}
 use Rattle.ct_algebra.specs.CoefficientLaws.{IsIn}
-use Rattle.ct_algebra.specs.Monomial.{Mono, exp, mono_cmp, mono_tied, mono_same, total}
-use Rattle.ct_algebra.specs.Names.{Name, place}
-use Rattle.ct_algebra.specs.Actions.{Action, Shift, Derive, Still, by_action}
-use Rattle.ct_algebra.specs.FreeOf.{IsWithout, EachName}
-use Rattle.ct_algebra.proofs.CoefficientLawProofs.{chosen_of, one_of, inside_whole, inside_within}
 use Rattle.ct_telescoping.specs.Rising.{IsListingOf, all_names}
 use Rattle.ct_telescoping.specs.Columns.{is_in, monomials_in, is_free_name, free_names}
 use Rattle.ct_telescoping.specs.NoTelescoper.{IsFreeMonomial}

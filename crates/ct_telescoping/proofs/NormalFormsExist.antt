@@ -1,22 +1,12 @@
 -- Each staircase has normal forms: main lemma `normal_forms`. They are filled in along a rising list of all monomials up to
 -- a total: an element gets its unit vector, any other monomial what makes zero of the first generator that divides it,
 -- moved there. What is filled in later changes nothing at lower monomials, and lists up to different totals agree.
-use Rattle.std.specs.Prelude.{◌≡◌, ◌≢◌, refl, ℕ, ◌<◌, ◌≤◌, List, [], ◌∷◌, get_or, ◌⊎◌}
-use Rattle.std.specs.List.{All, Contains}
-use Rattle.std.proofs.Common.{sym, ◌∙◌, ap, subst, arith, inl, inr, Ordering, Less, Equal, Greater}
-use Rattle.std.proofs.lemmas.List.Elements.{All-get_or}
-use Rattle.ct_algebra.specs.Group.{neg_add}
-use Rattle.ct_algebra.specs.Terms.{EachTerm, AllBelow, by_order}
-use Rattle.ct_algebra.specs.Laws.Terms.{less_is, not_zero}
-use Rattle.ct_algebra.specs.Monomial.{Mono, mono_cmp, mono_same, mono_tied, monomials, total, total_of_less, ·_comm}
-use Rattle.ct_algebra.specs.Names.{Name}
-use Rattle.ct_algebra.specs.Polynomial.{Polynomial, polys, polys_domain}
-use Rattle.ct_algebra.specs.Actions.{Action}
-use Rattle.ct_algebra.specs.Operators.{Operator, no_operator}
-use Rattle.ct_algebra.specs.FreeOf.{IsOver}
-use Rattle.ct_algebra.specs.Division.{inverse, mul-inverse, embed_nonzero}
-use Rattle.ct_algebra.specs.Field.{K, field}
-use Rattle.ct_algebra.specs.Leading.{LeadingDivides, IsIrreducible}
+use Rattle.ct_telescoping.proofs.Base.{◌≡◌, ◌≢◌, ℕ, ◌<◌, ◌≤◌, List, [], ◌∷◌, get_or, ◌⊎◌, All, Contains, sym, ◌∙◌, ap, subst, arith, inl, inr}
+use Rattle.ct_telescoping.proofs.Base.{Ordering, Less, Equal, Greater, All-get_or, neg_add, EachTerm, AllBelow, by_order, less_is, not_zero, Mono}
+use Rattle.ct_telescoping.proofs.Base.{mono_cmp, mono_same, mono_tied, monomials, total, total_of_less, ·_comm, Name, Polynomial, polys, polys_domain}
+use Rattle.ct_telescoping.proofs.Base.{Action, Operator, no_operator, IsOver, inverse, mul-inverse, embed_nonzero, K, field, LeadingDivides}
+use Rattle.ct_telescoping.proofs.Base.{IsIrreducible}
+use Rattle.std.specs.Prelude.{refl}
 use Rattle.ct_telescoping.specs.Vector.{Vector, unit_vector}
 use Rattle.ct_telescoping.specs.VectorModule.{scale_vector, scale_mul, scale_one}
 use Rattle.ct_telescoping.specs.Staircase.{HasOperators, IsElement, IsStaircaseOf}

@@ -2,26 +2,11 @@
 -- `forms_unique` and `rows_unique`; `forms_agree` is for forms that are known up to a monomial alone.
 -- By induction along the order of monomials: the moved generator has the monomial as its leading one, with a nonzero
 -- coefficient, and lower ones, at which both normal forms agree.
-use Rattle.std.specs.Prelude.{◌≡◌, ◌≢◌, ℕ, ◌<◌, List, [], ◌∷◌, get_or, ◌⊎◌}
-use Rattle.std.specs.List.{All, Contains}
-use Rattle.std.proofs.Common.{sym, ◌∙◌, ap, ap₂, subst, arith, refl, inl, inr, Less}
-use Rattle.std.proofs.lemmas.List.Elements.{All-get_or}
-use Rattle.ct_algebra.specs.Group.{Group, cancel}
-use Rattle.ct_algebra.specs.Domain.{mul_cancel}
-use Rattle.ct_algebra.specs.Terms.{EachTerm, AllBelow, IsCanonical, sum_over}
-use Rattle.ct_algebra.specs.Laws.Terms.{less_is, not_zero}
-use Rattle.ct_algebra.specs.Sums.{lift}
-use Rattle.ct_algebra.specs.Monomial.{Mono, mono_cmp, monomials, ◌·◌, ·_comm}
-use Rattle.ct_algebra.specs.Names.{Name, symbol}
-use Rattle.ct_algebra.specs.Polynomial.{Polynomial, polys, polys_domain}
-use Rattle.ct_algebra.specs.Actions.{Action, Still}
-use Rattle.ct_algebra.specs.Operators.{Operator, no_operator, term_of, product_of}
-use Rattle.ct_algebra.specs.FreeOf.{IsOver}
-use Rattle.ct_algebra.specs.Leading.{OperatorLeads, IsIrreducible}
-use Rattle.ct_algebra.specs.Fractions.{embed}
-use Rattle.ct_algebra.specs.Division.{fractions_domain, embed_nonzero}
-use Rattle.ct_algebra.specs.Field.{K, field}
-use Rattle.ct_algebra.proofs.ShiftedLeading.{shifted_leads}
+use Rattle.ct_telescoping.proofs.Base.{◌≡◌, ◌≢◌, ℕ, ◌<◌, List, [], ◌∷◌, get_or, ◌⊎◌, All, Contains, sym, ◌∙◌, ap, ap₂, subst, arith, refl, inl, inr}
+use Rattle.ct_telescoping.proofs.Base.{Less, All-get_or, Group, cancel, mul_cancel, EachTerm, AllBelow, IsCanonical, sum_over, less_is, not_zero}
+use Rattle.ct_telescoping.proofs.Base.{lift, Mono, mono_cmp, monomials, ◌·◌, ·_comm, Name, symbol, Polynomial, polys, polys_domain, Action, Still}
+use Rattle.ct_telescoping.proofs.Base.{Operator, no_operator, term_of, product_of, IsOver, OperatorLeads, IsIrreducible, embed, fractions_domain}
+use Rattle.ct_telescoping.proofs.Base.{embed_nonzero, K, field, shifted_leads}
 use Rattle.ct_telescoping.specs.Vector.{Vector, listed, entry, same_vector, vector_group}
 use Rattle.ct_telescoping.specs.VectorModule.{scale_vector, entry-scale_vector}
 use Rattle.ct_telescoping.specs.StaircaseModule.{Rows}

@@ -1,22 +1,17 @@
 -- A free column has a null vector, without names that are in no entry of the left side: main lemmas `null_vector_of-is`
 -- and `null_vector_of-free`. At the free column it has the product of all pivots' entries; at a pivot's column the negative entry of
 -- the free column, times the product of all others.
-use Rattle.std.specs.Prelude.{◌≡◌, ◌≢◌, refl, ℕ, Bool, true, false, cond, eqb, List, [], ◌∷◌, ◌⊎◌}
-use Rattle.std.specs.List.{Contains}
-use Rattle.std.proofs.Common.{sym, ◌∙◌, ap, ap₂, subst, arith, inl, inr, eqb-true, eq-eqb, ne_eqb}
-use native.Mathlib.Decide.{ℕ_discrete}
-use Rattle.ct_algebra.specs.Ring.{Ring, mul_zero}
-use Rattle.ct_algebra.specs.Domain.{IsDomain, product_nonzero}
-use Rattle.ct_algebra.specs.RingTactic.{ring3, ring5, reify}
-use Rattle.ct_algebra.specs.Names.{Name}
-use Rattle.ct_algebra.specs.Polynomial.{Polynomial, polys, polys_domain}
-use Rattle.ct_algebra.specs.FreeOf.{IsFreeOf}
+use Rattle.ct_telescoping.proofs.Base.{◌≡◌, ◌≢◌, ℕ, Bool, true, false, cond, eqb, List, [], ◌∷◌, ◌⊎◌, Contains, sym, ◌∙◌, ap, ap₂, subst, arith, inl}
+use Rattle.ct_telescoping.proofs.Base.{inr, eqb-true, eq-eqb, ne_eqb, Ring, mul_zero, IsDomain, product_nonzero, ring3, ring5, reify, Name}
+use Rattle.ct_telescoping.proofs.Base.{Polynomial, polys, polys_domain, IsFreeOf}
+use Rattle.std.specs.Prelude.{refl}
 use Rattle.ct_telescoping.specs.Elimination.{State}
 use Rattle.ct_telescoping.specs.Echelon.{Pivot, HasPivot, IsFree, IsNullVector}
 use Rattle.ct_telescoping.specs.EntriesFree.{EntriesAreFree}
 use Rattle.ct_telescoping.proofs.ListParts.{contains_first, contains_later, contains_cases, contains_none}
 use Rattle.ct_telescoping.proofs.PivotLists.{one_of_column, same_pivot}
 use Rattle.ct_telescoping.proofs.FreeFactors.{free-times, free_one}
+use native.Mathlib.Decide.{ℕ_discrete}
 
 module _ {A : Type 0} (R : Ring A) (D : IsDomain R) (s : State A) (f : ℕ) where
   open R use {zero, one, ◌+◌, ◌*◌, neg}

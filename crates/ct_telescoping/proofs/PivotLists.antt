@@ -1,12 +1,10 @@
 -- Lists of pivots: whether a row or a column has one, that it has only one (`one_of_row`, `one_of_column`), and one more pivot
 -- at the end (`in_order-push`).
-use Rattle.std.specs.Prelude.{◌≡◌, ◌≢◌, ℕ, ◌<◌, List, [], ◌∷◌, ◌++◌, ◌⊎◌}
-use Rattle.std.specs.List.{Contains}
-use Rattle.std.proofs.Common.{refl, sym, inl, inr, subst, ap, ◌∙◌, arith}
-use Rattle.std.proofs.lemmas.List.Elements.{Contains-push_cases}
-use native.Mathlib.Decide.{ℕ_discrete}
+use Rattle.ct_telescoping.proofs.Base.{◌≡◌, ◌≢◌, ℕ, ◌<◌, List, [], ◌∷◌, ◌++◌, ◌⊎◌, Contains, refl, sym, inl, inr, subst, ap, ◌∙◌, arith}
+use Rattle.ct_telescoping.proofs.Base.{Contains-push_cases}
 use Rattle.ct_telescoping.specs.Echelon.{Pivot, IsUnused, HasPivot, AreInOrder}
 use Rattle.ct_telescoping.proofs.ListParts.{contains_first, contains_later, contains_cases, contains_none}
+use native.Mathlib.Decide.{ℕ_discrete}
 
 pub same_pivot : (p q : Pivot) → p.row ≡ q.row → p.column ≡ q.column → p ≡ q
 same_pivot p q rows columns = λ i. record { row = rows i; column = columns i }

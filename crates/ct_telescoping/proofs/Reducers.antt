@@ -1,12 +1,9 @@
 -- Whether a leading monomial divides: main lemma `reducer_or_none`, by which a monomial has a first generator whose leading
 -- monomial divides it, or is irreducible.
-use Rattle.std.specs.Prelude.{◌≡◌, refl, ℕ, zero, suc, ◌+◌, ◌-◌, ◌<◌, ◌≤◌, List, [], ◌∷◌, get_or, ◌⊎◌}
-use Rattle.std.proofs.Common.{sym, ◌∙◌, ap, subst, arith, inl, inr, eq-or-lt_of_le}
-use Rattle.std.proofs.lemmas.List.Elements.{All-cons}
-use Rattle.ct_algebra.specs.Monomial.{Mono, exp, mono, exp-mono, exp-·, same_mono, ◌·◌}
-use Rattle.ct_algebra.specs.Polynomial.{Polynomial}
-use Rattle.ct_algebra.specs.Operators.{Operator, no_operator}
-use Rattle.ct_algebra.specs.Leading.{LeadingDivides, IsIrreducible}
+use Rattle.ct_telescoping.proofs.Base.{◌≡◌, ℕ, zero, suc, ◌+◌, ◌-◌, ◌<◌, ◌≤◌, List, [], ◌∷◌, get_or, ◌⊎◌, sym, ◌∙◌, ap, subst, arith, inl, inr}
+use Rattle.ct_telescoping.proofs.Base.{eq-or-lt_of_le, All-cons, Mono, exp, mono, exp-mono, exp-·, same_mono, ◌·◌, Polynomial, Operator, no_operator}
+use Rattle.ct_telescoping.proofs.Base.{LeadingDivides, IsIrreducible}
+use Rattle.std.specs.Prelude.{refl}
 use Rattle.ct_telescoping.specs.Tested.{FirstReducer}
 
 -- the first exponents fit, or one does not

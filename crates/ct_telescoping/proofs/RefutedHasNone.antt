@@ -2,21 +2,10 @@
 -- A relation of the shape of the columns makes the columns' vectors depend on each other, with its weights
 -- (`columns_depend`). A matrix that reads the vectors then sends the weights to zero, and a row that isolates a column
 -- leaves weight zero there.
-use Rattle.std.specs.Prelude.{◌≡◌, ◌≢◌, ℕ, ◌<◌, List, map, get_or}
-use Rattle.std.specs.List.{All, Contains}
-use Rattle.std.proofs.Common.{sym, ◌∙◌, ap, ap₂, refl, subst}
-use Rattle.std.proofs.lemmas.List.Elements.{All-contains_itself, All-weaker}
-use Rattle.ct_algebra.specs.RangeSum.{sum_below}
-use Rattle.ct_algebra.specs.Ore.{Module}
-use Rattle.ct_algebra.specs.Names.{Name}
-use Rattle.ct_algebra.specs.Polynomial.{Polynomial, polys, polys_domain}
-use Rattle.ct_algebra.specs.Actions.{Action, polynomials}
-use Rattle.ct_algebra.specs.Operators.{Operator, operator_group, no_operator, term_of, apply, EachKills}
-use Rattle.ct_algebra.specs.FreeOf.{EachName, IsFreeOfAll}
-use Rattle.ct_algebra.specs.Field.{field, coefficients}
-use Rattle.ct_algebra.specs.Certificate.{Certificate, IsRelation}
-use Rattle.ct_algebra.specs.Telescoping.{over_polynomials}
-use Rattle.ct_algebra.proofs.OperatorTerms.{term_of-zero}
+use Rattle.ct_telescoping.proofs.Base.{◌≡◌, ◌≢◌, ℕ, ◌<◌, List, map, get_or, All, Contains, sym, ◌∙◌, ap, ap₂, refl, subst, All-contains_itself}
+use Rattle.ct_telescoping.proofs.Base.{All-weaker, sum_below, Module, Name, Polynomial, polys, polys_domain, Action, polynomials, Operator}
+use Rattle.ct_telescoping.proofs.Base.{operator_group, no_operator, term_of, apply, EachKills, EachName, IsFreeOfAll, field, coefficients}
+use Rattle.ct_telescoping.proofs.Base.{Certificate, IsRelation, over_polynomials, term_of-zero}
 use Rattle.ct_telescoping.specs.Rising.{IsOnce}
 use Rattle.ct_telescoping.specs.Laws.SumsBelow.{sum_below-zero}
 use Rattle.ct_telescoping.specs.Columns.{Column, OfMonomial, OfSummand, IsOfTelescoper}

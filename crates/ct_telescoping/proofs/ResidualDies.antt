@@ -1,21 +1,10 @@
 -- What a vanishing sum of weighted columns is assembled to: main lemma `residual_dies`, by which the residual of an assembled
 -- certificate makes zero of x.
 -- The telescoper makes the sum of the differences of the names' vectors, and the sum of all H·E the scale times that.
-use Rattle.std.specs.Prelude.{◌≡◌, ◌≢◌, ℕ, ◌<◌, List, map, get_or}
-use Rattle.std.specs.List.{All}
-use Rattle.std.proofs.Common.{sym, ◌∙◌, ap, ap₂}
-use Rattle.ct_algebra.specs.Group.{Group, neg_unique, neg_neg}
-use Rattle.ct_algebra.specs.Ore.{Module}
-use Rattle.ct_algebra.specs.Names.{Name}
-use Rattle.ct_algebra.specs.Polynomial.{Polynomial, polys, polys_domain, times_is}
-use Rattle.ct_algebra.specs.Actions.{Action, polynomials}
-use Rattle.ct_algebra.specs.Operators.{apply, Kills}
-use Rattle.ct_algebra.specs.FreeOf.{EachName, IsFreeOfAll}
-use Rattle.ct_algebra.specs.Field.{field, coefficients, plain}
-use Rattle.ct_algebra.specs.Restriction.{restricted_cancel}
-use Rattle.ct_algebra.specs.Certificate.{Certificate}
-use Rattle.ct_algebra.specs.Telescoping.{over_polynomials}
-use Rattle.ct_algebra.proofs.AppliedOperators.{apply-sum, apply-negative, apply-multiple}
+use Rattle.ct_telescoping.proofs.Base.{◌≡◌, ◌≢◌, ℕ, ◌<◌, List, map, get_or, All, sym, ◌∙◌, ap, ap₂, Group, neg_unique, neg_neg, Module, Name}
+use Rattle.ct_telescoping.proofs.Base.{Polynomial, polys, polys_domain, times_is, Action, polynomials, apply, Kills, EachName, IsFreeOfAll, field}
+use Rattle.ct_telescoping.proofs.Base.{coefficients, plain, restricted_cancel, Certificate, over_polynomials, apply-sum, apply-negative}
+use Rattle.ct_telescoping.proofs.Base.{apply-multiple}
 use Rattle.ct_telescoping.specs.Rising.{IsOnce}
 use Rattle.ct_telescoping.specs.Columns.{Column}
 use Rattle.ct_telescoping.specs.Assembly.{IsAssembled, residual}

@@ -1,29 +1,14 @@
 -- An operator on the staircase that makes zero of the start is zero: main lemma `rest_is_zero`.
 -- It is the sum of its terms at the elements, each of which makes a multiple of its unit vector. So membership is decided
 -- by what an operator makes of the start: `zero_of_member` and `rest_of_zero`.
-use Rattle.std.specs.Prelude.{◌≡◌, ℕ, ◌<◌, List, cond, eqb}
-use Rattle.std.proofs.Common.{sym, ◌∙◌, ap, refl, eq-eqb, ne_eqb}
-use Rattle.ct_algebra.specs.Group.{IsHom, zero_add}
-use Rattle.ct_algebra.specs.Ring.{mul_zero}
-use Rattle.ct_algebra.specs.RangeSum.{sum_below}
-use Rattle.ct_algebra.specs.Laws.RangeSums.{sum_below-same, hom-sum_below}
+use Rattle.ct_telescoping.proofs.Base.{◌≡◌, ℕ, ◌<◌, List, cond, eqb, sym, ◌∙◌, ap, refl, eq-eqb, ne_eqb, IsHom, zero_add, mul_zero, sum_below}
+use Rattle.ct_telescoping.proofs.Base.{sum_below-same, hom-sum_below, EachTerm-weaker, at, at-⊕, at-single, single, same_hom_at, Module, Mono}
+use Rattle.ct_telescoping.proofs.Base.{monomials, Name, Polynomial, polys, polys_domain, Action, polynomials, Operator, operator_set, operator_group}
+use Rattle.ct_telescoping.proofs.Base.{no_operator, term_of, sum_of_operators, apply, Kills, EachKills, embed, embed_injective, K, field, plain}
+use Rattle.ct_telescoping.proofs.Base.{restricted_cancel, pick-other, pick-same, term_of-zero, term_of-sum, term_of-single, apply-sum, apply_hom}
+use Rattle.ct_telescoping.proofs.Base.{apply-multiple, apply-term_of, apply-combination, scale-zero}
 use Rattle.ct_telescoping.specs.Laws.SumsBelow.{sum_below-zero, sum_below-sum, sum_below-one}
-use Rattle.ct_algebra.specs.Terms.{EachTerm-weaker}
-use Rattle.ct_algebra.specs.Sums.{at, at-⊕, at-single, single, same_hom_at}
-use Rattle.ct_algebra.specs.Ore.{Module}
-use Rattle.ct_algebra.specs.Monomial.{Mono, monomials}
-use Rattle.ct_algebra.specs.Names.{Name}
-use Rattle.ct_algebra.specs.Polynomial.{Polynomial, polys, polys_domain}
-use Rattle.ct_algebra.specs.Actions.{Action, polynomials}
-use Rattle.ct_algebra.specs.Operators.{Operator, operator_set, operator_group, no_operator, term_of, sum_of_operators, apply, Kills, EachKills}
-use Rattle.ct_algebra.specs.Fractions.{embed}
-use Rattle.ct_algebra.specs.Division.{embed_injective}
-use Rattle.ct_algebra.specs.Field.{K, field, plain}
 use Rattle.ct_algebra.specs.Membership.{Reduction, IsMember, ReducesTo}
-use Rattle.ct_algebra.specs.Restriction.{restricted_cancel}
-use Rattle.ct_algebra.proofs.OperatorTerms.{pick-other, pick-same, term_of-zero, term_of-sum, term_of-single}
-use Rattle.ct_algebra.proofs.AppliedOperators.{apply-sum, apply_hom, apply-multiple, apply-term_of, apply-combination}
-use Rattle.ct_algebra.proofs.ModuleLaws.{scale-zero}
 use Rattle.ct_telescoping.specs.Vector.{Vector, entry, entry-plus_vector, entry-zero_vector, entry-unit_vector, vector_group}
 use Rattle.ct_telescoping.specs.VectorModule.{entry-scale_vector}
 use Rattle.ct_telescoping.specs.StaircaseModule.{Rows, RowsCommute, over_field, staircase_module, start}

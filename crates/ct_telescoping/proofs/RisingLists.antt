@@ -1,15 +1,13 @@
 -- Rising lists of monomials: main lemmas `rising-listing` (the rising list of a list has its monomials), `up_to-listing`
 -- (`up_to` lists the monomials of total at most n that pass the test) and `listing_unique`.
-use Rattle.std.specs.Prelude.{◌≡◌, ℕ, zero, suc, ◌<◌, ◌≤◌, Bool, true, false, cond, List, [], ◌∷◌, length, map, get_or, ◌⊎◌}
-use Rattle.std.specs.List.{Contains, filter, flat_map}
-use Rattle.std.proofs.Common.{refl, sym, ◌∙◌, ap, subst, arith, inl, inr, Ordering, Less, Equal, Greater}
-use Rattle.std.proofs.lemmas.List.Elements.{Contains-append_left, Contains-append_right, Contains-append_cases}
-use Rattle.ct_algebra.specs.Terms.{by_order}
-use Rattle.ct_algebra.specs.Monomial.{Mono, mono, unit, ◌·◌, mono_cmp, mono_tied, mono_turned_back, monomials, total, total-·}
-use Rattle.ct_algebra.specs.Names.{Name, x0, x1, x2, x3, x4, x5, symbol, by_symbols}
+use Rattle.ct_telescoping.proofs.Base.{◌≡◌, ℕ, zero, suc, ◌<◌, ◌≤◌, Bool, true, false, cond, List, [], ◌∷◌, length, map, get_or, ◌⊎◌, Contains}
+use Rattle.ct_telescoping.proofs.Base.{filter, flat_map, refl, sym, ◌∙◌, ap, subst, arith, inl, inr, Ordering, Less, Equal, Greater}
+use Rattle.ct_telescoping.proofs.Base.{Contains-append_left, Contains-append_right, Contains-append_cases, by_order, Mono, mono, unit, ◌·◌, mono_cmp}
+use Rattle.ct_telescoping.proofs.Base.{mono_tied, mono_turned_back, monomials, total, total-·, Name, x0, x1, x2, x3, x4, x5, symbol, by_symbols}
 use Rattle.ct_telescoping.specs.Rising.{Rises, IsListingOf, insert_rising, rising, all_names, within, up_to, IsOnce}
 use Rattle.ct_telescoping.proofs.OrderedLists.{ordered_at, ordered_unique}
-use Rattle.ct_telescoping.proofs.ListParts.{contains_first, contains_later, contains_cases, contains_none, contains_map, contains_map_cases, contains_flat_map, contains_flat_map_cases, contains_filter, contains_filter_cases}
+use Rattle.ct_telescoping.proofs.ListParts.{contains_first, contains_later, contains_cases, contains_none, contains_map, contains_map_cases}
+use Rattle.ct_telescoping.proofs.ListParts.{contains_flat_map, contains_flat_map_cases, contains_filter, contains_filter_cases}
 
 pub not_lower : (m : Mono) → mono_cmp m m ≡ Less → ⊥
 not_lower m less = clash (sym (monomials.same m) ∙ less)

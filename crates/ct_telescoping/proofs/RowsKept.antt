@@ -1,16 +1,12 @@
 -- Elimination keeps what KeepsMatrix says: main lemmas `KeepsMatrix-first`, `KeepsMatrix-after` for one pivot, and
 -- `null_of_left`: what the left side sends to zero, the matrix sends to zero.
 -- Each row step is p·row − a·pivotrow and an exact division, and both can be undone over a ring without zero divisors.
-use Rattle.std.specs.Prelude.{◌≡◌, ℕ, ◌<◌, ◌≢◌, cond, eqb}
-use Rattle.std.proofs.Common.{sym, ◌∙◌, ap, refl, subst, eq-eqb, ne_eqb}
-use native.Mathlib.Decide.{ℕ_discrete}
-use Rattle.ct_algebra.specs.Ring.{Ring, zero_mul, one_mul}
-use Rattle.ct_algebra.specs.Domain.{IsDomain}
-use Rattle.ct_algebra.specs.RangeSum.{sum_below}
-use Rattle.ct_algebra.specs.Laws.RangeSums.{sum_below-same}
+use Rattle.ct_telescoping.proofs.Base.{◌≡◌, ℕ, ◌<◌, ◌≢◌, cond, eqb, sym, ◌∙◌, ap, refl, subst, eq-eqb, ne_eqb, Ring, zero_mul, one_mul, IsDomain}
+use Rattle.ct_telescoping.proofs.Base.{sum_below, sum_below-same}
 use Rattle.ct_telescoping.specs.Laws.SumsBelow.{sum_below-one}
 use Rattle.ct_telescoping.specs.Elimination.{State, RowStep, Step, KeepsMatrix, Gives, Annuls, matrix_times, first_state}
 use Rattle.ct_telescoping.proofs.Multipliers.{Gives-step, Gives-divided, Annuls-before_step, Annuls-before_division, Gives-image}
+use native.Mathlib.Decide.{ℕ_discrete}
 
 module _ {A : Type 0} (R : Ring A) (D : IsDomain R) (n m : ℕ) (matrix : ℕ → ℕ → A) where
   open R use {zero, one, ◌+◌, ◌*◌, neg}

@@ -2,30 +2,16 @@
 -- column is the telescoper's coefficient; that of a summand's column is the power's coefficient in the numerator's at the
 -- element.
 -- Both sides respect sums, so they are compared at single terms, where one column counts.
-use Rattle.std.specs.Prelude.{◌≡◌, ◌≢◌, ◌⊎◌, ℕ, ◌<◌, ℤ, pos, Bool, true, false, List, [], ◌∷◌, map, get_or, cond}
-use Rattle.std.specs.List.{All, Contains}
-use Rattle.std.proofs.Common.{sym, ◌∙◌, ap, ap₂, refl, subst, inl, inr, Ordering, Less, Equal, Greater}
-use Rattle.std.proofs.lemmas.List.Elements.{All-nil, All-cons, All-contains_itself}
-use Rattle.ct_algebra.specs.Group.{IsHom, comp_hom, hom_zero}
-use Rattle.ct_algebra.specs.Ring.{zero_mul}
-use Rattle.ct_algebra.specs.RangeSum.{sum_below}
-use Rattle.ct_algebra.specs.Laws.RangeSums.{sum_below-same}
+use Rattle.ct_telescoping.proofs.Base.{◌≡◌, ◌≢◌, ◌⊎◌, ℕ, ◌<◌, ℤ, pos, Bool, true, false, List, [], ◌∷◌, map, get_or, cond, All, Contains, sym, ◌∙◌}
+use Rattle.ct_telescoping.proofs.Base.{ap, ap₂, refl, subst, inl, inr, Ordering, Less, Equal, Greater, All-nil, All-cons, All-contains_itself, IsHom}
+use Rattle.ct_telescoping.proofs.Base.{comp_hom, hom_zero, zero_mul, sum_below, sum_below-same, EachTerm, EachTerm-weaker, by_order, at, at-⊕}
+use Rattle.ct_telescoping.proofs.Base.{same_hom_at, Mono, mono_cmp, mono_tied, monomials, int_group, Name, Polynomial, polys, poly_set, times}
+use Rattle.ct_telescoping.proofs.Base.{times_is, term, term_is, term-*, times_one, Operator, operator_set, operator_group, no_operator, term_of}
+use Rattle.ct_telescoping.proofs.Base.{IsFreeOfAll, inside, outside, coefficient_in, term_of-zero, term_of-single, term_of_hom, pick-other, pick-same}
+use Rattle.ct_telescoping.proofs.Base.{at-term_of, coefficient_in-sum, coefficient_in_hom, coefficient_in-term, outside-inside, coefficient_in-free}
+use Rattle.ct_telescoping.proofs.Base.{free_zero, by_values, Summand, Certificate}
 use Rattle.ct_telescoping.specs.Rising.{IsOnce}
 use Rattle.ct_telescoping.specs.Laws.SumsBelow.{sum_below-sum, sum_below-one}
-use Rattle.ct_algebra.specs.Terms.{EachTerm, EachTerm-weaker, by_order}
-use Rattle.ct_algebra.specs.Sums.{at, at-⊕, same_hom_at}
-use Rattle.ct_algebra.specs.Monomial.{Mono, mono_cmp, mono_tied, monomials}
-use Rattle.ct_algebra.specs.WholeNumbers.{int_group}
-use Rattle.ct_algebra.specs.Names.{Name}
-use Rattle.ct_algebra.specs.Polynomial.{Polynomial, polys, poly_set, times, times_is}
-use Rattle.ct_algebra.specs.Substitution.{term, term_is, term-*, times_one}
-use Rattle.ct_algebra.specs.Operators.{Operator, operator_set, operator_group, no_operator, term_of}
-use Rattle.ct_algebra.specs.FreeOf.{IsFreeOfAll}
-use Rattle.ct_algebra.specs.Coefficients.{inside, outside, coefficient_in}
-use Rattle.ct_algebra.proofs.OperatorTerms.{term_of-zero, term_of-single, term_of_hom, pick-other, pick-same, at-term_of}
-use Rattle.ct_algebra.proofs.CoefficientLaws.{coefficient_in-sum, coefficient_in_hom, coefficient_in-term, outside-inside, coefficient_in-free, free_zero}
-use Rattle.ct_algebra.proofs.TermLawProofs.{by_values}
-use Rattle.ct_algebra.specs.Certificate.{Summand, Certificate}
 use Rattle.ct_telescoping.specs.Columns.{Column, OfMonomial, OfSummand, IsListed, AreDistinct}
 use Rattle.ct_telescoping.specs.Assembly.{is_same, telescoper_term, numerator_term, numerator_of}
 use Rattle.ct_telescoping.proofs.ListParts.{contains_map}

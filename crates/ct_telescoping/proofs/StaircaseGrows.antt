@@ -2,18 +2,13 @@
 -- where no leading monomial is 1) and `GrowsFromOne-staircase`.
 -- What no leading monomial divides has only such divisors. A monomial but 1 is a symbol times a lower one, so each element
 -- but the first has an earlier one before it.
-use Rattle.std.specs.Prelude.{◌≡◌, ◌≢◌, refl, ℕ, zero, suc, ◌+◌, ◌<◌, ◌≤◌, List, length, get_or, ◌⊎◌}
-use Rattle.std.proofs.Common.{sym, ◌∙◌, ap, subst, arith, inl, inr, Less, Equal, eq-or-lt_of_le}
-use Rattle.std.proofs.lemmas.List.{get_or_default}
-use Rattle.std.proofs.lemmas.List.Elements.{Contains-get_or}
-use Rattle.ct_algebra.specs.Monomial.{Mono, exp, exp-·, exp-unit, unit, ◌·◌, ·_assoc, mono_cmp, monomials, total, total-·, total_of_less, less_of_total}
-use Rattle.ct_algebra.specs.Names.{Name, place, place_small, symbol, by_symbols}
-use Rattle.ct_algebra.specs.Actions.{Action}
-use Rattle.ct_algebra.specs.Operators.{Operator}
-use Rattle.ct_algebra.specs.Leading.{IsIrreducible}
+use Rattle.ct_telescoping.proofs.Base.{◌≡◌, ◌≢◌, ℕ, zero, suc, ◌+◌, ◌<◌, ◌≤◌, List, length, get_or, ◌⊎◌, sym, ◌∙◌, ap, subst, arith, inl, inr, Less}
+use Rattle.ct_telescoping.proofs.Base.{Equal, eq-or-lt_of_le, get_or_default, Contains-get_or, Mono, exp, exp-·, exp-unit, unit, ◌·◌, ·_assoc}
+use Rattle.ct_telescoping.proofs.Base.{mono_cmp, monomials, total, total-·, total_of_less, less_of_total, Name, place, place_small, symbol}
+use Rattle.ct_telescoping.proofs.Base.{by_symbols, Action, Operator, IsIrreducible, same_or_other}
+use Rattle.std.specs.Prelude.{refl}
 use Rattle.ct_telescoping.specs.Staircase.{HasOperators, IsElement, IsStaircaseOf, IsStep, GrowsFromOne}
 use Rattle.ct_telescoping.specs.Rising.{IsListingOf}
-use Rattle.ct_algebra.proofs.MonomialLists.{same_or_other}
 use Rattle.ct_telescoping.proofs.RisingLists.{rises_at, total_unit, total-symbol}
 
 -- ---- divisors

@@ -1,23 +1,16 @@
 -- The proofs of specs/StaircaseLaws, from the main lemmas of the other files.
 -- That symbols commute on the rows can hold in one way only, so what is proved of one module of the rows holds of each.
-use Rattle.std.specs.Prelude.{◌≡◌, ◌≢◌, refl, ℕ, ◌<◌, List, [], ◌∷◌}
-use Rattle.std.proofs.Common.{sym, ◌∙◌, ap, subst}
-use Rattle.ct_algebra.specs.Terms.{EachTerm}
-use Rattle.ct_algebra.specs.Monomial.{Mono, monomials, ◌·◌}
-use Rattle.ct_algebra.specs.Names.{Name, symbol, power_unit}
-use Rattle.ct_algebra.specs.Polynomial.{Polynomial, polys}
-use Rattle.ct_algebra.specs.Actions.{Action, Shift, Derive, Still, by_action}
-use Rattle.ct_algebra.specs.Operators.{Operator, polynomial_at, EachKills, apply-product_of}
-use Rattle.ct_algebra.specs.FreeOf.{IsOver}
-use Rattle.ct_algebra.specs.Leading.{IsIrreducible}
-use Rattle.ct_algebra.specs.Field.{K, field}
-use Rattle.ct_algebra.proofs.AppliedOperators.{apply-multiple, apply-sum, apply-on_sum, apply-term_of, apply-combination}
-use Rattle.ct_algebra.proofs.TermLawProofs.{by_values}
+use Rattle.ct_telescoping.proofs.Base.{◌≡◌, ◌≢◌, ℕ, ◌<◌, List, [], ◌∷◌, sym, ◌∙◌, ap, subst, EachTerm, Mono, monomials, ◌·◌, Name, symbol, power_unit}
+use Rattle.ct_telescoping.proofs.Base.{Polynomial, polys, Action, Shift, Derive, Still, by_action, Operator, polynomial_at, EachKills}
+use Rattle.ct_telescoping.proofs.Base.{apply-product_of, IsOver, IsIrreducible, K, field, apply-multiple, apply-sum, apply-on_sum, apply-term_of}
+use Rattle.ct_telescoping.proofs.Base.{apply-combination, by_values}
+use Rattle.std.specs.Prelude.{refl}
 use Rattle.ct_telescoping.specs.Vector.{entry}
 use Rattle.ct_telescoping.specs.StaircaseModule.{Rows, RowsCommute, staircase_module, start}
 use Rattle.ct_telescoping.specs.Staircase.{IsElement, IsAmong, HasOperators, IsStaircaseOf}
 use Rattle.ct_telescoping.specs.Tested.{HasRows, IsTested}
-use Rattle.ct_telescoping.specs.StaircaseLaws.{StaircaseGrows, StaircaseIsModule, RowsExist, RowsAreDetermined, TestsSuffice, TestedGivesModule, ImageDecidesMembership}
+use Rattle.ct_telescoping.specs.StaircaseLaws.{StaircaseGrows, StaircaseIsModule, RowsExist, RowsAreDetermined, TestsSuffice, TestedGivesModule}
+use Rattle.ct_telescoping.specs.StaircaseLaws.{ImageDecidesMembership}
 use Rattle.ct_telescoping.proofs.StaircaseUnits.{power-start}
 use Rattle.ct_telescoping.proofs.RestIsZero.{zero_of_member, rest_of_zero}
 use Rattle.ct_telescoping.proofs.StaircaseGrows.{divisor_listed, unit_listed, elements_differ, GrowsFromOne-staircase}

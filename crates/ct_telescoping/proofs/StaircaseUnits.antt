@@ -1,15 +1,9 @@
 -- The staircase in its module: main lemma `power-start`, by which each element makes its unit vector of the start.
 -- The rows of a step are unit rows, and a symbol makes row b of the unit vector at b.
-use Rattle.std.specs.Prelude.{◌≡◌, ℕ, zero, suc, ◌<◌, ◌≤◌, Bool, true, false, cond, eqb}
-use Rattle.std.proofs.Common.{sym, ◌∙◌, ap, ap₂, refl, arith, eq-eqb, ne_eqb}
-use Rattle.ct_algebra.specs.Ring.{Ring, one_mul, zero_mul}
+use Rattle.ct_telescoping.proofs.Base.{◌≡◌, ℕ, zero, suc, ◌<◌, ◌≤◌, Bool, true, false, cond, eqb, sym, ◌∙◌, ap, ap₂, refl, arith, eq-eqb, ne_eqb}
+use Rattle.ct_telescoping.proofs.Base.{Ring, one_mul, zero_mul, Ore, Module, σ_zero, δ_zero, δ_one, Mono, ◌·◌, Name, symbol, power, power_unit}
+use Rattle.ct_telescoping.proofs.Base.{power_symbol, polys, Action, polynomials, K, field, coefficients}
 use Rattle.ct_telescoping.specs.Laws.SumsBelow.{sum_below-one}
-use Rattle.ct_algebra.specs.Ore.{Ore, Module, σ_zero, δ_zero, δ_one}
-use Rattle.ct_algebra.specs.Monomial.{Mono, ◌·◌}
-use Rattle.ct_algebra.specs.Names.{Name, symbol, power, power_unit, power_symbol}
-use Rattle.ct_algebra.specs.Polynomial.{polys}
-use Rattle.ct_algebra.specs.Actions.{Action, polynomials}
-use Rattle.ct_algebra.specs.Field.{K, field, coefficients}
 use Rattle.ct_telescoping.specs.Vector.{Vector, entry, same_vector, unit_vector, entry-unit_vector}
 use Rattle.ct_telescoping.specs.VectorModule.{act_vector, entry-act_vector}
 use Rattle.ct_telescoping.specs.StaircaseModule.{Rows, RowsCommute, staircase_module, start}

@@ -1,19 +1,12 @@
 -- Names without operator in the module of a staircase. Main lemma `commute_of_tests`: where their rows are zero, and the
 -- tests of the other names hold, all symbols commute on the rows.
 -- δ of such a name is zero on the field, so with zero rows its symbol makes zero of each vector.
-use Rattle.std.specs.Prelude.{◌≡◌, ℕ, ◌<◌}
-use Rattle.std.proofs.Common.{sym, ◌∙◌, ap, ap₂, refl}
-use Rattle.ct_algebra.specs.Group.{neg_zero}
-use Rattle.ct_algebra.specs.Ring.{mul_zero, zero_mul}
+use Rattle.ct_telescoping.proofs.Base.{◌≡◌, ℕ, ◌<◌, sym, ◌∙◌, ap, ap₂, refl, neg_zero, mul_zero, zero_mul, σ_zero, δ_zero, Name, place, Polynomial}
+use Rattle.ct_telescoping.proofs.Base.{polys, polys_domain, Action, Shift, Derive, Still, polynomials, delta_by, fraction_set, same_maps, K, field}
+use Rattle.ct_telescoping.proofs.Base.{coefficients, plain}
 use Rattle.ct_telescoping.specs.Laws.SumsBelow.{sum_below-zero}
-use Rattle.ct_algebra.specs.Ore.{σ_zero, δ_zero}
-use Rattle.ct_algebra.specs.Names.{Name, place}
-use Rattle.ct_algebra.specs.Polynomial.{Polynomial, polys, polys_domain}
-use Rattle.ct_algebra.specs.Actions.{Action, Shift, Derive, Still, polynomials, delta_by}
-use Rattle.ct_algebra.specs.Fractions.{fraction_set, same_maps}
 use Rattle.ct_algebra.specs.FractionRing.{zero_num}
 use Rattle.ct_algebra.specs.FractionOre.{δ_value-value, delta_of}
-use Rattle.ct_algebra.specs.Field.{K, field, coefficients, plain}
 use Rattle.ct_telescoping.specs.RowAction.{action}
 use Rattle.ct_telescoping.specs.Laws.ActionLaws.{action-same}
 use Rattle.ct_telescoping.specs.StaircaseModule.{Rows, RowsCommute}

@@ -1,25 +1,17 @@
 -- The proofs of specs/SupportLaws, from the main lemmas of the other files: the laws of elimination, of tested generators and
 -- of systems, read at the columns of a support.
-use Rattle.std.specs.Prelude.{◌≡◌, ◌≢◌, refl, ℕ, ◌<◌}
-use Rattle.std.specs.List.{All}
-use Rattle.std.proofs.Common.{sym, ◌∙◌, ap, subst}
-use Rattle.std.proofs.lemmas.List.Elements.{All-map}
-use Rattle.ct_algebra.specs.Ring.{mul_zero}
-use Rattle.ct_algebra.specs.Names.{Name}
-use Rattle.ct_algebra.specs.Polynomial.{Polynomial, polys, polys_domain, times_is}
-use Rattle.ct_algebra.specs.Operators.{operator_group, no_operator, combination, Kills}
-use Rattle.ct_algebra.specs.FreeOf.{IsFreeOf, OperatorIsFreeOf}
-use Rattle.ct_algebra.specs.Coefficients.{coefficient_in}
-use Rattle.ct_algebra.specs.Certificate.{Certificate}
-use Rattle.ct_algebra.proofs.OperatorTerms.{sums_are, none_is}
-use Rattle.ct_algebra.proofs.CoefficientLaws.{coefficient_in-free}
+use Rattle.ct_telescoping.proofs.Base.{◌≡◌, ◌≢◌, ℕ, ◌<◌, All, sym, ◌∙◌, ap, subst, All-map, mul_zero, Name, Polynomial, polys, polys_domain, times_is}
+use Rattle.ct_telescoping.proofs.Base.{operator_group, no_operator, combination, Kills, IsFreeOf, OperatorIsFreeOf, coefficient_in, Certificate}
+use Rattle.ct_telescoping.proofs.Base.{sums_are, none_is, coefficient_in-free}
+use Rattle.std.specs.Prelude.{refl}
 use Rattle.ct_telescoping.specs.StaircaseModule.{over_field, staircase_module, start}
 use Rattle.ct_telescoping.specs.EntriesFree.{EntriesAreFree}
 use Rattle.ct_telescoping.specs.Rising.{IsOnce}
 use Rattle.ct_telescoping.specs.Columns.{Column, OfMonomial, OfSummand, IsColumnOf, IsOfTelescoper}
 use Rattle.ct_telescoping.specs.Assembly.{telescoper_of, IsAssembled, residual, scaled_summand}
 use Rattle.ct_telescoping.specs.Task.{Task, IsTestedTask, TaskCommutes, count_for, column_for, AreNonzero, IsSystemFor, IsNullFor}
-use Rattle.ct_telescoping.specs.SupportLaws.{ColumnsAreOfSupport, SystemIsMade, SystemIsDetermined, SystemIsFree, EliminationDecidesSupport, RefutedIsEmpty, CertifiesOnceReduced, AssemblyCertifies}
+use Rattle.ct_telescoping.specs.SupportLaws.{ColumnsAreOfSupport, SystemIsMade, SystemIsDetermined, SystemIsFree, EliminationDecidesSupport}
+use Rattle.ct_telescoping.specs.SupportLaws.{RefutedIsEmpty, CertifiesOnceReduced, AssemblyCertifies}
 use Rattle.ct_telescoping.proofs.NamesIn.{each_contained, contained_each}
 use Rattle.ct_telescoping.proofs.Eliminated.{refutes, null_vector, null_divided}
 use Rattle.ct_telescoping.proofs.EntriesFree.{free_quotient, null_free}
@@ -32,7 +24,8 @@ use Rattle.ct_telescoping.proofs.SystemUnique.{system_unique}
 use Rattle.ct_telescoping.proofs.ColumnSums.{IsOfSummed}
 use Rattle.ct_telescoping.proofs.RefutedHasNone.{each_summand, refuted_has_none}
 use Rattle.ct_telescoping.proofs.ShapeWeights.{IsOfShape-HasShape}
-use Rattle.ct_telescoping.proofs.ColumnsListed.{columns_distinct, columns_sound, columns_complete, support_has_shape, telescopers_from, from_telescopers}
+use Rattle.ct_telescoping.proofs.ColumnsListed.{columns_distinct, columns_sound, columns_complete, support_has_shape, telescopers_from}
+use Rattle.ct_telescoping.proofs.ColumnsListed.{from_telescopers}
 use Rattle.ct_telescoping.proofs.ResidualDies.{residual_dies}
 use Rattle.ct_telescoping.proofs.AssembledCertifies.{names_kept, relation_of_reduction, telescoper_nonzero, telescoper_free}
 

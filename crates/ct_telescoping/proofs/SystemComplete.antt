@@ -1,23 +1,12 @@
 -- A null vector of a system makes its columns depend on each other: main lemma `columns_vanish`, the other direction of
 -- `system_reads`. Where no row is listed all coefficients are zero, so all coefficients of the weighted numerators' sum are
 -- zero, at each element, and a polynomial is known by its coefficients in some of the names (`zero_of_coefficients`).
-use Rattle.std.specs.Prelude.{◌≡◌, ◌≢◌, refl, ℕ, zero, suc, ◌<◌, Bool, true, false, List, ◌⊎◌}
-use Rattle.std.proofs.Common.{sym, ◌∙◌, ap, arith, inl, inr, eq-or-lt_of_le}
-use Rattle.ct_algebra.specs.Group.{IsHom}
-use Rattle.ct_algebra.specs.Ring.{mul_zero, mul_left_comm}
-use Rattle.ct_algebra.specs.Domain.{zero_factor}
-use Rattle.ct_algebra.specs.RangeSum.{sum_below}
-use Rattle.ct_algebra.specs.Laws.RangeSums.{sum_below-same, hom-sum_below, mul-sum_below}
+use Rattle.ct_telescoping.proofs.Base.{◌≡◌, ◌≢◌, ℕ, zero, suc, ◌<◌, Bool, true, false, List, ◌⊎◌, sym, ◌∙◌, ap, arith, inl, inr, eq-or-lt_of_le}
+use Rattle.ct_telescoping.proofs.Base.{IsHom, mul_zero, mul_left_comm, zero_factor, sum_below, sum_below-same, hom-sum_below, mul-sum_below, Mono}
+use Rattle.ct_telescoping.proofs.Base.{Name, Polynomial, polys, polys_domain, coefficient_in, IsFreeOfAll, embed, embed-sum, embed-product}
+use Rattle.ct_telescoping.proofs.Base.{embed_nonzero, fractions_domain, K, field, coefficient_in_hom, coefficient_in-product}
+use Rattle.std.specs.Prelude.{refl}
 use Rattle.ct_telescoping.specs.Laws.SumsBelow.{sum_below-zero}
-use Rattle.ct_algebra.specs.Monomial.{Mono}
-use Rattle.ct_algebra.specs.Names.{Name}
-use Rattle.ct_algebra.specs.Polynomial.{Polynomial, polys, polys_domain}
-use Rattle.ct_algebra.specs.Coefficients.{coefficient_in}
-use Rattle.ct_algebra.specs.FreeOf.{IsFreeOfAll}
-use Rattle.ct_algebra.specs.Fractions.{embed}
-use Rattle.ct_algebra.specs.Division.{embed-sum, embed-product, embed_nonzero, fractions_domain}
-use Rattle.ct_algebra.specs.Field.{K, field}
-use Rattle.ct_algebra.proofs.CoefficientLaws.{coefficient_in_hom, coefficient_in-product}
 use Rattle.ct_telescoping.specs.Vector.{Vector, entry, entry-plus_vector, entry-zero_vector, same_vector, vector_group}
 use Rattle.ct_telescoping.specs.VectorModule.{scale_vector, entry-scale_vector}
 use Rattle.ct_telescoping.specs.Elimination.{matrix_times}

@@ -1,20 +1,9 @@
 -- Tested generators give a module. Main lemmas: `tested_commute` (the symbols commute on the rows), `tested_units` (rows of
 -- steps are unit rows), `tested_grows` (the staircase grows from 1) and `tested_kills` (the generators kill the start).
-use Rattle.std.specs.Prelude.{◌≡◌, ℕ, ◌+◌, List, [], ◌∷◌, cond, eqb, ◌⊎◌}
-use Rattle.std.specs.List.{All}
-use Rattle.std.proofs.Common.{sym, ◌∙◌, ap, refl, arith, inl, inr, eq-eqb}
-use Rattle.std.proofs.lemmas.List.Elements.{All-head, All-tail}
-use Rattle.ct_algebra.specs.Ore.{Module}
-use Rattle.ct_algebra.specs.OreAlgebra.{act}
-use Rattle.ct_algebra.specs.Sums.{lift}
-use Rattle.ct_algebra.specs.Monomial.{Mono, exp, exp-·, unit, total, total-·, monomials}
-use Rattle.ct_algebra.specs.Names.{Name, place, place_small, symbol, exp-symbol, power}
-use Rattle.ct_algebra.specs.Polynomial.{polys, polys_domain}
-use Rattle.ct_algebra.specs.Actions.{Action, Still, polynomials}
-use Rattle.ct_algebra.specs.Operators.{Operator, apply, EachKills}
-use Rattle.ct_algebra.specs.Fractions.{embed}
-use Rattle.ct_algebra.specs.Field.{K, field}
-use Rattle.ct_algebra.specs.Leading.{IsIrreducible}
+use Rattle.ct_telescoping.proofs.Base.{◌≡◌, ℕ, ◌+◌, List, [], ◌∷◌, cond, eqb, ◌⊎◌, All, sym, ◌∙◌, ap, refl, arith, inl, inr, eq-eqb, All-head}
+use Rattle.ct_telescoping.proofs.Base.{All-tail, Module, act, lift, Mono, exp, exp-·, unit, total, total-·, monomials, Name, place, place_small}
+use Rattle.ct_telescoping.proofs.Base.{symbol, exp-symbol, power, polys, polys_domain, Action, Still, polynomials, Operator, apply, EachKills, embed}
+use Rattle.ct_telescoping.proofs.Base.{K, field, IsIrreducible}
 use Rattle.ct_telescoping.specs.Vector.{Vector, entry, entry-unit_vector, vector_group}
 use Rattle.ct_telescoping.specs.VectorModule.{scale_vector}
 use Rattle.ct_telescoping.specs.StaircaseModule.{Rows, RowsCommute, staircase_module, start}

@@ -1,18 +1,8 @@
 -- Rows that pass the tests are the rows of normal forms: main lemma `tests_suffice`. So who tests rows need not show normal
 -- forms of all monomials: in the module that the tests give, the vectors of monomials are these.
-use Rattle.std.specs.Prelude.{◌≡◌, ℕ, zero, suc, ◌<◌, List, [], ◌∷◌, length, get_or}
-use Rattle.std.specs.List.{All}
-use Rattle.std.proofs.Common.{sym, ◌∙◌, ap, refl, arith}
-use Rattle.ct_algebra.specs.Ore.{Module}
-use Rattle.ct_algebra.specs.OreAlgebra.{act}
-use Rattle.ct_algebra.specs.Monomial.{Mono, unit}
-use Rattle.ct_algebra.specs.Names.{Name, power, power_symbol}
-use Rattle.ct_algebra.specs.Polynomial.{polys}
-use Rattle.ct_algebra.specs.Actions.{Action, Still, polynomials}
-use Rattle.ct_algebra.specs.Operators.{Operator, no_operator, term_of, apply, Kills, EachKills, apply-product_of}
-use Rattle.ct_algebra.specs.Field.{K, field, coefficients}
-use Rattle.ct_algebra.proofs.AppliedOperators.{apply-on_zero}
-use Rattle.ct_algebra.specs.Leading.{IsIrreducible}
+use Rattle.ct_telescoping.proofs.Base.{◌≡◌, ℕ, zero, suc, ◌<◌, List, [], ◌∷◌, length, get_or, All, sym, ◌∙◌, ap, refl, arith, Module, act, Mono, unit}
+use Rattle.ct_telescoping.proofs.Base.{Name, power, power_symbol, polys, Action, Still, polynomials, Operator, no_operator, term_of, apply, Kills}
+use Rattle.ct_telescoping.proofs.Base.{EachKills, apply-product_of, K, field, coefficients, apply-on_zero, IsIrreducible}
 use Rattle.ct_telescoping.specs.Vector.{Vector, entry, vector_group}
 use Rattle.ct_telescoping.specs.StaircaseModule.{Rows, RowsCommute, staircase_module, start}
 use Rattle.ct_telescoping.specs.Staircase.{IsStaircaseOf, GrowsFromOne, StartsUnits}

@@ -1,4 +1,4 @@
-use Rattle.std.proofs.Common.{◌≡◌, ◌++◌}
+use Rattle.ct_answer.proofs.Base.{◌≡◌, ◌++◌}
 use Rattle.ct_answer.specs.Text.{powers_in}
 use Rattle.ct_answer.proofs.factors.append_powers.Given as goal
 

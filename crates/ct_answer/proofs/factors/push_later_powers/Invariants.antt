@@ -1,4 +1,4 @@
-use Rattle.std.proofs.Common.{◌≡◌, ◌++◌, drop}
+use Rattle.ct_answer.proofs.Base.{◌≡◌, ◌++◌, drop}
 use Rattle.ct_answer.specs.Text.{later_powers}
 use Rattle.ct_answer.proofs.factors.push_later_powers.Given as goal
 

@@ -1,5 +1,5 @@
-use Rattle.std.proofs.Common.{◌≡◌, ◌++◌, drop}
-use Rattle.std.specs.Prelude.{flat_map, false}
+use Rattle.ct_answer.proofs.Base.{◌≡◌, ◌++◌, drop, false}
+use Rattle.std.proofs.Common.{flat_map}
 use Rattle.ct_ore.specs.Terms.{op_entries}
 use Rattle.ct_answer.specs.Text.{operator_entry_text}
 use Rattle.ct_answer.proofs.operator.push_op_terms.Given as goal

@@ -1,4 +1,4 @@
-use Rattle.std.proofs.Common.{◌≡◌, ◌+◌, ◌++◌, drop}
+use Rattle.ct_answer.proofs.Base.{◌≡◌, ◌+◌, ◌++◌, drop}
 use Rattle.ct_answer.specs.Reductions.{cofactor_lines}
 use Rattle.ct_answer.proofs.reductions.push_cofactors.Given as goal
 

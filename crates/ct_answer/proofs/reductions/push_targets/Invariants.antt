@@ -1,4 +1,4 @@
-use Rattle.std.proofs.Common.{◌≡◌, ◌+◌, ◌++◌, drop, map}
+use Rattle.ct_answer.proofs.Base.{◌≡◌, ◌+◌, ◌++◌, drop, map}
 use Rattle.ct_reduce.specs.Views.{reduction_of}
 use Rattle.ct_answer.specs.Reductions.{targets_lines}
 use Rattle.ct_answer.proofs.reductions.push_targets.Given as goal

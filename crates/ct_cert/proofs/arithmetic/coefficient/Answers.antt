@@ -1,7 +1,4 @@
-use Rattle.std.proofs.Common.{Ok, ap, sym}
-use Rattle.ct_ore.specs.Naming.{actions_of}
-use Rattle.ct_algebra.specs.Actions.{Shift, Derive, Still}
-use Rattle.ct_ore.specs.Answers.{summand_of}
+use Rattle.ct_cert.proofs.Base.{Ok, ap, sym, actions_of, Shift, Derive, Still, summand_of}
 use Rattle.ct_cert.proofs.ByAction.{coefficient_for}
 use Rattle.ct_cert.proofs.arithmetic.coefficient.Goals as goal
 

@@ -1,6 +1,4 @@
-use Rattle.ct_ore.specs.Naming.{actions_of}
-use Rattle.ct_algebra.specs.Actions.{Shift, Derive, Still}
-use Rattle.ct_ore.specs.Answers.{summand_of}
+use Rattle.ct_cert.proofs.Base.{actions_of, Shift, Derive, Still, summand_of}
 use Rattle.ct_cert.proofs.ByAction.{denominator_for}
 use Rattle.ct_cert.proofs.arithmetic.denominator.Goals as goal
 

@@ -1,5 +1,4 @@
-use Rattle.std.proofs.lemmas.List.Elements.{All-rest}
-use Rattle.ct_ore.specs.Naming.{actions_of}
+use Rattle.ct_cert.proofs.Base.{All-rest, actions_of}
 use Rattle.ct_cert.specs.Certificates.{IsNamed}
 use Rattle.ct_cert.proofs.Steps.{next_difference}
 use Rattle.ct_cert.proofs.arithmetic.differences.Goals as goal

@@ -1,9 +1,5 @@
-use Rattle.std.proofs.Common.{◌≡◌, map, length}
-use Rattle.std.specs.List.{All}
-use Rattle.ct_algebra.specs.Operators.{no_operator}
-use Rattle.ct_ore.specs.Naming.{actions_of}
+use Rattle.ct_cert.proofs.Base.{◌≡◌, map, length, All, no_operator, actions_of, summand_of}
 use Rattle.ct_cert.specs.Arithmetic.{checked_differences}
-use Rattle.ct_ore.specs.Answers.{summand_of}
 use Rattle.ct_cert.specs.Certificates.{IsNamed}
 use Rattle.ct_cert.proofs.arithmetic.differences.Given as goal
 

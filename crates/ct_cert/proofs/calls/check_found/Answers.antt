@@ -1,5 +1,4 @@
-use Rattle.ct_ore.specs.Naming.{actions_of, summed_of}
-use Rattle.ct_ore.specs.Answers.{certificate_of}
+use Rattle.ct_cert.proofs.Base.{actions_of, summed_of, certificate_of}
 use Rattle.ct_cert.proofs.Passing.{answer_certifies}
 use Rattle.ct_cert.proofs.Refusing.{answer_refutes}
 use Rattle.ct_cert.proofs.calls.check_found.Goals as goal

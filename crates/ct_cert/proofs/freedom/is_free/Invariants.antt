@@ -1,4 +1,4 @@
-use Rattle.std.proofs.Common.{◌≡◌, length}
+use Rattle.ct_cert.proofs.Base.{◌≡◌, length}
 use Rattle.ct_ore.specs.Terms.{op_entries}
 use Rattle.ct_cert.specs.Certificates.{names_of}
 use Rattle.ct_cert.specs.Freedom.{each_passes, term_lacks, operator_lacks}

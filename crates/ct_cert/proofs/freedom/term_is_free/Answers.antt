@@ -1,10 +1,8 @@
-use Rattle.std.proofs.Common.{subst, sym, ◌∙◌}
-use Rattle.std.specs.List.{All}
-use Rattle.std.proofs.lemmas.List.Elements.{All-head, All-rest}
+use Rattle.ct_cert.proofs.Base.{subst, sym, ◌∙◌, All, All-head, All-rest}
 use Rattle.ct_cert.specs.Certificates.{IsSmall}
 use Rattle.ct_cert.proofs.FreedomSteps.{name_found, coefficient_found, names_go_on}
-use Rattle.ct_cert.proofs.freedom.term_is_free.Goals as goal
 use Rattle.ct_cert.proofs.freedom.term_is_free.Goals.{then-exp-ne0-via-then-exp-ne0, then-exp-ne0-via-else-exp-ne0+then-contains}
+use Rattle.ct_cert.proofs.freedom.term_is_free.Goals as goal
 
 pub returns-then-exp-ne0 : goal.returns-then-exp-ne0
 returns-then-exp-ne0 c =

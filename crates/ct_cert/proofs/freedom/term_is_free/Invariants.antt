@@ -1,5 +1,4 @@
-use Rattle.std.proofs.Common.{◌≡◌, length}
-use Rattle.std.specs.List.{All}
+use Rattle.ct_cert.proofs.Base.{◌≡◌, length, All}
 use Rattle.ct_cert.specs.Certificates.{names_of, IsSmall}
 use Rattle.ct_cert.specs.Freedom.{term_lacks}
 use Rattle.ct_cert.proofs.freedom.term_is_free.Given as goal

@@ -1,14 +1,11 @@
-use Rattle.std.proofs.Common.{Ok, not, ap, sym, ◌∙◌, subst, map}
-use Rattle.std.proofs.lemmas.Option.{IfSome_then}
-use Rattle.std.proofs.lemmas.Result.{err_from_is_err_and}
-use Rattle.ct_ore.specs.Naming.{actions_of}
+use Rattle.ct_cert.proofs.Base.{Ok, not, ap, sym, ◌∙◌, subst, map, IfSome_then, err_from_is_err_and, actions_of, summand_of, certificate_of}
 use Rattle.ct_cert.specs.declared.place.Place.TheVariants.{Found, Scale}
 use Rattle.ct_cert.specs.Arithmetic.{checked_identity}
-use Rattle.ct_ore.specs.Answers.{summand_of, certificate_of}
 use Rattle.ct_cert.specs.Certificates.{names_of}
 use Rattle.ct_cert.specs.Testing.{AnswersTest, ending_of, test_of}
 use Rattle.ct_cert.specs.Tests.{telescoper_test, denominator_test, part_test, for_each}
-use Rattle.ct_cert.proofs.Order.{scale_made, tests_at_found, tests_at_telescoper, tests_at_scale, tests_at_denominators, tests_at_factors, tests_at_identity}
+use Rattle.ct_cert.proofs.Order.{scale_made, tests_at_found, tests_at_telescoper, tests_at_scale, tests_at_denominators, tests_at_factors}
+use Rattle.ct_cert.proofs.Order.{tests_at_identity}
 use Rattle.ct_cert.proofs.tests_in_order.all_tests.Goals as goal
 
 pub returns-in_err-ending : goal.returns-in_err-ending

@@ -1,11 +1,5 @@
-use Rattle.std.proofs.Common.{subst, sym, ◌∙◌, Ok, not}
-use Rattle.std.specs.List.{All}
-use Rattle.std.specs.Prelude.{map}
-use Rattle.std.proofs.lemmas.List.Elements.{All-head, All-rest}
-use Rattle.std.proofs.lemmas.Option.{IfSome_then}
-use Rattle.std.proofs.lemmas.Result.{err_from_is_err_and}
+use Rattle.ct_cert.proofs.Base.{subst, sym, ◌∙◌, Ok, not, All, map, All-head, All-rest, IfSome_then, err_from_is_err_and, summand_of}
 use Rattle.ct_cert.specs.declared.place.Place.TheVariants.{Denominator}
-use Rattle.ct_ore.specs.Answers.{summand_of}
 use Rattle.ct_cert.specs.Certificates.{IsSmall}
 use Rattle.ct_cert.specs.Testing.{ending_of}
 use Rattle.ct_cert.specs.Tests.{denominator_test, for_each}

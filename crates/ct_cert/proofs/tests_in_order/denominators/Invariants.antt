@@ -1,6 +1,4 @@
-use Rattle.std.proofs.Common.{◌≡◌, map, length}
-use Rattle.std.specs.List.{All}
-use Rattle.ct_ore.specs.Answers.{summand_of}
+use Rattle.ct_cert.proofs.Base.{◌≡◌, map, length, All, summand_of}
 use Rattle.ct_cert.specs.Certificates.{IsSmall}
 use Rattle.ct_cert.specs.Tests.{denominator_test, for_each}
 use Rattle.ct_cert.proofs.tests_in_order.denominators.Given as goal

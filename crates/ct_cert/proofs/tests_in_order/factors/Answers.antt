@@ -1,12 +1,5 @@
-use Rattle.std.proofs.Common.{subst, sym, ◌∙◌, arith}
-use Rattle.std.specs.List.{All}
-use Rattle.std.specs.Prelude.{map}
-use Rattle.std.proofs.lemmas.List.Elements.{All-head, All-rest}
-use Rattle.std.proofs.lemmas.Option.{IfSome_then}
-use Rattle.std.proofs.lemmas.Result.{err_from_is_err_and}
-use Rattle.ct_ore.specs.Naming.{actions_of}
+use Rattle.ct_cert.proofs.Base.{subst, sym, ◌∙◌, arith, All, map, All-head, All-rest, IfSome_then, err_from_is_err_and, actions_of, summand_of}
 use Rattle.ct_cert.specs.declared.place.Place.TheVariants.{Part}
-use Rattle.ct_ore.specs.Answers.{summand_of}
 use Rattle.ct_cert.specs.Certificates.{IsSmall, IsNamed}
 use Rattle.ct_cert.specs.Arithmetic.{checked_part}
 use Rattle.ct_cert.specs.Testing.{ending_of}

@@ -1,7 +1,4 @@
-use Rattle.std.proofs.Common.{◌≡◌, map, length}
-use Rattle.std.specs.List.{All}
-use Rattle.ct_ore.specs.Naming.{actions_of}
-use Rattle.ct_ore.specs.Answers.{summand_of}
+use Rattle.ct_cert.proofs.Base.{◌≡◌, map, length, All, actions_of, summand_of}
 use Rattle.ct_cert.specs.Certificates.{IsNamed}
 use Rattle.ct_cert.specs.Tests.{part_test, for_each}
 use Rattle.ct_cert.proofs.tests_in_order.factors.Given as goal

@@ -1,4 +1,4 @@
-use Rattle.std.proofs.Common.{subst}
+use Rattle.ct_cert.proofs.Base.{subst}
 use Rattle.ct_cert.specs.Certificates.{names_of}
 use Rattle.ct_cert.specs.Testing.{AnswersTest}
 use Rattle.ct_cert.proofs.Order.{zero_telescoper, free_telescoper}

@@ -1,15 +1,11 @@
-use Rattle.std.proofs.Common.{rules, ℤ, ◌∙◌, ap, ap₂, sym, refl, IsTrue, subst, Ok}
-use Rattle.ct_algebra.specs.Substitution.{number}
-use Rattle.ct_algebra.specs.Operators.{no_operator}
-use Rattle.ct_checked.specs.Checked.{Answers, Checked}
+use Rattle.ct_expr.proofs.Base.{rules, ℤ, ◌∙◌, ap, ap₂, sym, refl, IsTrue, subst, Ok, number, no_operator, Answers, Checked, actions_of}
 use Rattle.ct_expr.specs.declared.expr.Expr.{the_lemmas}
-use Rattle.ct_ore.specs.Naming.{actions_of}
 use Rattle.ct_expr.specs.ValueArithmetic.{Value, over_one}
-use Rattle.ct_expr.specs.Value as spec
 use Rattle.ct_expr.specs.Value.{sum_from, product_from}
-use Rattle.ct_expr.proofs.Values as v
 use Rattle.ct_expr.proofs.Answering.{passes_on}
 use Rattle.ct_expr.proofs.Turns.{next_item, one_item, no_item}
+use Rattle.ct_expr.specs.Value as spec
+use Rattle.ct_expr.proofs.Values as v
 use Rattle.ct_expr.proofs.evaluation.+evaluation.Goals as goal
 
 pub fraction-whole-requires : goal.fraction-whole-requires

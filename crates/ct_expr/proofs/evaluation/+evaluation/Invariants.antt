@@ -1,5 +1,4 @@
-use Rattle.std.proofs.Common.{◌≡◌, drop, IsTrue}
-use Rattle.ct_ore.specs.Naming.{actions_of}
+use Rattle.ct_expr.proofs.Base.{◌≡◌, drop, IsTrue, actions_of}
 use Rattle.ct_expr.specs.Value.{sum_of_values, sum_from, signed, product_of_values, product_from, fractions, all_evaluable, all_evaluable_terms}
 use Rattle.ct_expr.proofs.evaluation.+evaluation.Given as goal
 

@@ -1,6 +1,5 @@
-use Rattle.std.proofs.Common.{◌-◌, ◌+◌, rules, arith}
+use Rattle.ct_expr.proofs.Base.{◌-◌, ◌+◌, rules, arith, actions_of}
 use Rattle.std.proofs.lemmas.Grind.{common_steps}
-use Rattle.ct_ore.specs.Naming.{actions_of}
 use Rattle.ct_expr.specs.ValueArithmetic.{checked_times}
 use Rattle.ct_expr.specs.Value.{power_from}
 use Rattle.ct_expr.proofs.Turns.{one_more, no_more}

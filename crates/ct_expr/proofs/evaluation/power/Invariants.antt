@@ -1,5 +1,4 @@
-use Rattle.std.proofs.Common.{◌≡◌, ◌-◌}
-use Rattle.ct_ore.specs.Naming.{actions_of}
+use Rattle.ct_expr.proofs.Base.{◌≡◌, ◌-◌, actions_of}
 use Rattle.ct_expr.specs.Value.{power_from, one_value}
 use Rattle.ct_expr.proofs.evaluation.power.Given as goal
 

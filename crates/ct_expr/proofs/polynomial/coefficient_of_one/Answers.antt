@@ -1,7 +1,4 @@
-use Rattle.std.proofs.Common.{◌≡◌, true, false, sym, ◌∙◌, subst, IfOk}
-use Rattle.ct_algebra.specs.Monomial.{unit}
-use Rattle.ct_algebra.specs.Polynomial.{Polynomial}
-use Rattle.ct_mono.specs.Equal.{mono_eq}
+use Rattle.ct_expr.proofs.Base.{◌≡◌, true, false, sym, ◌∙◌, subst, IfOk, unit, Polynomial, mono_eq}
 use Rattle.ct_expr.proofs.CoefficientOfOne.{all_left, one_is_there, one_is_later, one_is_nowhere}
 use Rattle.ct_expr.proofs.polynomial.coefficient_of_one.Goals as goal
 

@@ -1,4 +1,4 @@
-use Rattle.std.proofs.Common.{drop}
+use Rattle.ct_expr.proofs.Base.{drop}
 use Rattle.ct_expr.proofs.CoefficientOfOne.{IsLeft}
 use Rattle.ct_expr.proofs.polynomial.coefficient_of_one.Given as goal
 

@@ -1,4 +1,4 @@
-use Rattle.std.proofs.Common.{◌≡◌, length}
+use Rattle.ct_frac.proofs.Base.{◌≡◌, length}
 use Rattle.ct_frac.specs.Arithmetic.{checked_spread}
 use Rattle.ct_frac.proofs.clear.spread.Given as goal
 

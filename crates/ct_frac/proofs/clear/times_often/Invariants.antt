@@ -1,4 +1,4 @@
-use Rattle.std.proofs.Common.{◌≡◌}
+use Rattle.ct_frac.proofs.Base.{◌≡◌}
 use Rattle.ct_frac.specs.Arithmetic.{checked_often}
 use Rattle.ct_frac.proofs.clear.times_often.Given as goal
 

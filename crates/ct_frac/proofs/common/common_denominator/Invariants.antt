@@ -1,4 +1,4 @@
-use Rattle.std.proofs.Common.{◌≡◌, length}
+use Rattle.ct_frac.proofs.Base.{◌≡◌, length}
 use Rattle.ct_frac.specs.Arithmetic.{checked_common}
 use Rattle.ct_frac.specs.Written.{one_den}
 use Rattle.ct_frac.proofs.common.common_denominator.Given as goal

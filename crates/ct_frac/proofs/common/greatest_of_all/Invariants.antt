@@ -1,4 +1,4 @@
-use Rattle.std.proofs.Common.{◌≡◌, length}
+use Rattle.ct_frac.proofs.Base.{◌≡◌, length}
 use Rattle.ct_frac.specs.Arithmetic.{all_greatest}
 use Rattle.ct_frac.proofs.common.greatest_of_all.Given as goal
 

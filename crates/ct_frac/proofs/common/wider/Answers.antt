@@ -1,7 +1,5 @@
-use Rattle.std.proofs.Common.{◌≡◌, Ok, sym, ◌∙◌, ap, ap₂, subst}
-use Rattle.ct_poly.specs.Wholes.{checked_whole}
+use Rattle.ct_frac.proofs.Base.{◌≡◌, Ok, sym, ◌∙◌, ap, ap₂, subst, checked_whole, least_common}
 use Rattle.ct_frac.specs.Arithmetic.{all_greatest}
-use Rattle.ct_int.specs.Divisors.{least_common}
 use Rattle.ct_frac.specs.Written.{IsDenominator}
 use Rattle.ct_frac.proofs.CommonDenominators.{wider_is}
 use Rattle.ct_frac.proofs.common.wider.Goals as goal

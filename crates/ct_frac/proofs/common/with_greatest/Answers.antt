@@ -1,6 +1,4 @@
-use Rattle.std.proofs.Common.{◌≡◌, sym, ◌∙◌, ap, ap₂, arith, rules}
-use Rattle.std.proofs.lemmas.Result.{IfOk-weaker}
-use Rattle.std.specs.List.{insert}
+use Rattle.ct_frac.proofs.Base.{◌≡◌, sym, ◌∙◌, ap, ap₂, arith, rules, IfOk-weaker, insert}
 use Rattle.ct_frac.specs.Code.{find_place, exponent_set}
 use Rattle.ct_frac.proofs.Joining.{found_at, found_before}
 use Rattle.ct_frac.proofs.common.with_greatest.Goals as goal

@@ -1,5 +1,4 @@
-use Rattle.std.proofs.Common.{◌≡◌, Ok, sym, subst, rules}
-use Rattle.ct_algebra.specs.Names.{name_with}
+use Rattle.ct_frac.proofs.Base.{◌≡◌, Ok, sym, subst, rules, name_with}
 use Rattle.ct_frac.specs.Symbols.{checked_raised}
 use Rattle.ct_frac.specs.Written.{IsDenominator}
 use Rattle.ct_frac.proofs.DerivedFractions.{raised_den}

@@ -1,5 +1,4 @@
-use Rattle.std.proofs.Common.{◌≡◌, ◌++◌, length}
-use Rattle.ct_algebra.specs.Names.{name_with}
+use Rattle.ct_frac.proofs.Base.{◌≡◌, ◌++◌, length, name_with}
 use Rattle.ct_frac.specs.Symbols.{with_name}
 use Rattle.ct_frac.proofs.delta.factors_with_name.Given as goal
 

@@ -1,6 +1,4 @@
-use Rattle.std.proofs.Common.{◌≡◌, ltb, length}
-use Rattle.std.specs.List.{list_any}
-use Rattle.ct_algebra.specs.Monomial.{exp}
+use Rattle.ct_frac.proofs.Base.{◌≡◌, ltb, length, list_any, exp}
 use Rattle.ct_poly.specs.Terms.{entries}
 use Rattle.ct_frac.proofs.delta.is_in_terms.Given as goal
 

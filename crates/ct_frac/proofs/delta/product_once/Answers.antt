@@ -1,7 +1,4 @@
-use Rattle.std.proofs.Common.{◌≡◌, ◌++◌, ◌∙◌, ap, sym, subst, rules}
-use Rattle.ct_algebra.specs.Polynomial.{polys}
-use Rattle.ct_algebra.specs.Substitution.{one_is}
-use Rattle.ct_checked.specs.Checked.{Answers, ◌>>=◌}
+use Rattle.ct_frac.proofs.Base.{◌≡◌, ◌++◌, ◌∙◌, ap, sym, subst, rules, polys, one_is, Answers, ◌>>=◌}
 use Rattle.ct_frac.specs.Symbols.{checked_once}
 use Rattle.ct_frac.proofs.DerivedFractions.{once_both}
 use Rattle.ct_frac.proofs.delta.product_once.Goals as goal

@@ -1,6 +1,4 @@
-use Rattle.std.proofs.Common.{◌≡◌, ◌++◌, Ok, length}
-use Rattle.ct_algebra.specs.Names.{name_with}
-use Rattle.ct_checked.specs.Checked.{◌>>=◌}
+use Rattle.ct_frac.proofs.Base.{◌≡◌, ◌++◌, Ok, length, name_with, ◌>>=◌}
 use Rattle.ct_frac.specs.Symbols.{checked_raised}
 use Rattle.ct_frac.proofs.delta.raised.Given as goal
 

@@ -1,4 +1,4 @@
-use Rattle.std.proofs.Common.{◌≡◌, length}
+use Rattle.ct_frac.proofs.Base.{◌≡◌, length}
 use Rattle.ct_frac.specs.Symbols.{checked_once}
 use Rattle.ct_frac.proofs.delta.times_once.Given as goal
 

@@ -1,6 +1,4 @@
-use Rattle.std.proofs.Common.{◌≡◌, ◌∷◌, ◌++◌, ◌+◌, length, [], Ok, ◌∙◌, ap, sym, subst, arith, rules, take}
-use Rattle.std.proofs.lemmas.List.{append_assoc}
-use Rattle.ct_algebra.specs.Names.{name_with}
+use Rattle.ct_frac.proofs.Base.{◌≡◌, ◌∷◌, ◌++◌, ◌+◌, length, [], Ok, ◌∙◌, ap, sym, subst, arith, rules, take, append_assoc, name_with}
 use Rattle.ct_frac.specs.Symbols.{checked_part, checked_without_parts}
 use Rattle.ct_frac.proofs.DerivedFractions.{next_taken, part_taken}
 use Rattle.ct_frac.proofs.delta.without_parts.Goals as goal

@@ -1,5 +1,4 @@
-use Rattle.std.proofs.Common.{◌≡◌, ◌+◌, ◌++◌, [], length, take}
-use Rattle.ct_algebra.specs.Names.{name_with}
+use Rattle.ct_frac.proofs.Base.{◌≡◌, ◌+◌, ◌++◌, [], length, take, name_with}
 use Rattle.ct_frac.specs.Symbols.{checked_without_parts}
 use Rattle.ct_frac.proofs.delta.without_parts.Given as goal
 

@@ -1,4 +1,4 @@
-use Rattle.std.proofs.Common.{◌≡◌, length}
+use Rattle.ct_frac.proofs.Base.{◌≡◌, length}
 use Rattle.ct_frac.specs.Arithmetic.{exponent_in}
 use Rattle.ct_frac.proofs.insertion.exponent_of.Given as goal
 

@@ -1,4 +1,4 @@
-use Rattle.std.proofs.Common.{◌≡◌, ◌+◌, length}
+use Rattle.ct_frac.proofs.Base.{◌≡◌, ◌+◌, length}
 use Rattle.ct_frac.specs.Code.{find_place}
 use Rattle.ct_frac.proofs.insertion.found.Given as goal
 

@@ -1,5 +1,4 @@
-use Rattle.std.proofs.Common.{◌∙◌, ap}
-use Rattle.std.specs.List.{insert}
+use Rattle.ct_frac.proofs.Base.{◌∙◌, ap, insert}
 use Rattle.ct_frac.specs.Code.{place_in}
 use Rattle.ct_frac.proofs.Naming.{insert_place}
 use Rattle.ct_frac.proofs.insertion.insert.Goals as goal

@@ -1,7 +1,4 @@
-use Rattle.std.proofs.Common.{◌≡◌, ◌≢◌, IsTrue, false, [], sym, ◌∙◌, ap, ap₂, subst, arith}
-use Rattle.std.proofs.lemmas.Grind.{common_steps}
-use Rattle.std.proofs.lemmas.Result.{IfOk-weaker}
-use Rattle.ct_algebra.specs.Polynomial.{polys}
+use Rattle.ct_frac.proofs.Base.{◌≡◌, ◌≢◌, IsTrue, false, [], sym, ◌∙◌, ap, ap₂, subst, arith, common_steps, IfOk-weaker, polys}
 use Rattle.ct_frac.specs.Written.{IsWritten}
 use Rattle.ct_frac.specs.Normal.{lowered, in_lowest_terms}
 use Rattle.ct_frac.proofs.NormalLaws.{lowest_written, normal-zero, normal-nonzero}

@@ -1,5 +1,4 @@
-use Rattle.std.proofs.Common.{sym, subst, arith}
-use Rattle.std.specs.Int.{IsGcd}
+use Rattle.ct_frac.proofs.Base.{sym, subst, arith, IsGcd}
 use Rattle.ct_frac.specs.Written.{IsWritten, IsDenominator}
 use Rattle.ct_int.proofs.CommonDivisors.{divisor_positive, divisor_small}
 use Rattle.ct_frac.proofs.NormalLaws.{cancelled_is}

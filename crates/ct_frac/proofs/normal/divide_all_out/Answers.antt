@@ -1,4 +1,4 @@
-use Rattle.std.proofs.Common.{◌≡◌, ◌∷◌, rules, subst}
+use Rattle.ct_frac.proofs.Base.{◌≡◌, ◌∷◌, rules, subst}
 use Rattle.ct_frac.specs.Written.{AreFactors}
 use Rattle.ct_frac.proofs.Denominators.{base_nonzero}
 use Rattle.ct_frac.proofs.normal.divide_all_out.Goals as goal

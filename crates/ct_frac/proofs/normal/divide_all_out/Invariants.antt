@@ -1,4 +1,4 @@
-use Rattle.std.proofs.Common.{◌≡◌, [], length}
+use Rattle.ct_frac.proofs.Base.{◌≡◌, [], length}
 use Rattle.ct_frac.specs.Normal.{lowered}
 use Rattle.ct_frac.specs.Written.{AreFactors}
 use Rattle.ct_frac.proofs.normal.divide_all_out.Given as goal

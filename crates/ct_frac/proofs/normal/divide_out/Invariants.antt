@@ -1,4 +1,4 @@
-use Rattle.std.proofs.Common.{◌≡◌}
+use Rattle.ct_frac.proofs.Base.{◌≡◌}
 use Rattle.ct_frac.specs.Normal.{divided_out}
 use Rattle.ct_frac.proofs.normal.divide_out.Given as goal
 

@@ -1,9 +1,4 @@
-use Rattle.std.proofs.Common.{◌≤◌, ◌∙◌, ap, subst, cond, arith}
-use Rattle.std.proofs.lemmas.Result.{IfOk-weaker}
-use Rattle.ct_algebra.specs.Monomial.{total}
-use Rattle.ct_algebra.specs.Polynomial.{polys}
-use Rattle.ct_checked.specs.Limits.{largest_degree}
-use Rattle.ct_poly.specs.Content.{common_monomial}
+use Rattle.ct_frac.proofs.Base.{◌≤◌, ◌∙◌, ap, subst, cond, arith, IfOk-weaker, total, polys, largest_degree, common_monomial}
 use Rattle.ct_frac.specs.Written.{value}
 use Rattle.ct_frac.proofs.QuotientLaws.{parts_den, factors_are, quotient_of-parts, quotient_of-value}
 use Rattle.ct_frac.proofs.quotient.divided_by_polynomial.Goals as goal

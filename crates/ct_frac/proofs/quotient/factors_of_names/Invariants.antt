@@ -1,4 +1,4 @@
-use Rattle.std.proofs.Common.{◌≡◌, ◌+◌, []}
+use Rattle.ct_frac.proofs.Base.{◌≡◌, ◌+◌, []}
 use Rattle.ct_frac.specs.Normal.{names_from, sorted_onto}
 use Rattle.ct_frac.proofs.quotient.factors_of_names.Given as goal
 

@@ -1,5 +1,4 @@
-use Rattle.std.proofs.Common.{◌∙◌, ap, eqb}
-use Rattle.ct_algebra.specs.Polynomial.{degree, degree_of}
+use Rattle.ct_frac.proofs.Base.{◌∙◌, ap, eqb, degree, degree_of}
 use Rattle.ct_frac.proofs.quotient.is_constant.Goals as goal
 
 pub returns : goal.returns

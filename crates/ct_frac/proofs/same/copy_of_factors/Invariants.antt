@@ -1,4 +1,4 @@
-use Rattle.std.proofs.Common.{◌≡◌, ◌++◌, length}
+use Rattle.ct_frac.proofs.Base.{◌≡◌, ◌++◌, length}
 use Rattle.ct_frac.proofs.same.copy_of_factors.Given as goal
 
 abbrev pub invariant-copying : goal.invariant-copying

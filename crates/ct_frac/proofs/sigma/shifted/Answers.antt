@@ -1,6 +1,4 @@
-use Rattle.std.proofs.Common.{◌≡◌, [], Ok, sym, subst, rules}
-use Rattle.ct_algebra.specs.Names.{name_with}
-use Rattle.ct_poly.specs.Measures.{checked_shifted}
+use Rattle.ct_frac.proofs.Base.{◌≡◌, [], Ok, sym, subst, rules, name_with, checked_shifted}
 use Rattle.ct_frac.specs.Symbols.{checked_shifted_factors}
 use Rattle.ct_frac.specs.Written.{IsDenominator, IsWritten}
 use Rattle.ct_frac.proofs.ShiftedFactors.{shifted_written}

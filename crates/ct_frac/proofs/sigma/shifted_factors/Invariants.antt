@@ -1,5 +1,4 @@
-use Rattle.std.proofs.Common.{◌≡◌, [], length}
-use Rattle.ct_algebra.specs.Names.{name_with}
+use Rattle.ct_frac.proofs.Base.{◌≡◌, [], length, name_with}
 use Rattle.ct_frac.specs.Symbols.{checked_shifted_factors}
 use Rattle.ct_frac.proofs.sigma.shifted_factors.Given as goal
 

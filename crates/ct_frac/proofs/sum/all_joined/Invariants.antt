@@ -1,4 +1,4 @@
-use Rattle.std.proofs.Common.{◌≡◌, length}
+use Rattle.ct_frac.proofs.Base.{◌≡◌, length}
 use Rattle.ct_frac.specs.Arithmetic.{checked_joined_all}
 use Rattle.ct_frac.proofs.sum.all_joined.Given as goal
 

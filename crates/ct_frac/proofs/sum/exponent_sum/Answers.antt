@@ -1,5 +1,4 @@
-use Rattle.std.proofs.Common.{◌≡◌, ◌≤◌, ◌+◌, Ok, ◌∙◌, ap, arith}
-use Rattle.ct_checked.specs.Limits.{largest_degree}
+use Rattle.ct_frac.proofs.Base.{◌≡◌, ◌≤◌, ◌+◌, Ok, ◌∙◌, ap, arith, largest_degree}
 use Rattle.ct_frac.proofs.Limits.{exponent_fits, exponent_passes}
 use Rattle.ct_frac.proofs.sum.exponent_sum.Goals as goal
 

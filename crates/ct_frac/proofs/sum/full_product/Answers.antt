@@ -1,5 +1,4 @@
-use Rattle.std.proofs.Common.{◌≡◌, Ok, ◌*◌, rules}
-use Rattle.ct_poly.specs.Wholes.{checked_whole}
+use Rattle.ct_frac.proofs.Base.{◌≡◌, Ok, ◌*◌, rules, checked_whole}
 use Rattle.ct_frac.specs.Arithmetic.{checked_joined_all}
 use Rattle.ct_frac.proofs.SumLaws.{product_den}
 use Rattle.ct_frac.proofs.sum.full_product.Goals as goal

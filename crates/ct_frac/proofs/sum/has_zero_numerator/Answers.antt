@@ -1,6 +1,4 @@
-use Rattle.std.proofs.Common.{subst, IsTrue}
-use Rattle.std.specs.Prelude.{◌≡◌, ◌↔◌}
-use Rattle.ct_algebra.specs.Polynomial.{polys}
+use Rattle.ct_frac.proofs.Base.{subst, IsTrue, ◌≡◌, ◌↔◌, polys}
 use Rattle.ct_frac.proofs.SumLaws.{is_zero_told}
 use Rattle.ct_frac.proofs.sum.has_zero_numerator.Goals as goal
 

@@ -1,6 +1,4 @@
-use Rattle.std.proofs.Common.{◌≡◌, Ok, sym, ◌∙◌, ap, subst, arith, rules}
-use Rattle.std.specs.List.{insert}
-use Rattle.ct_checked.specs.Checked.{AnswersBy, ◌>>=◌}
+use Rattle.ct_frac.proofs.Base.{◌≡◌, Ok, sym, ◌∙◌, ap, subst, arith, rules, insert, AnswersBy, ◌>>=◌}
 use Rattle.ct_frac.specs.Code.{find_place, exponent_set}
 use Rattle.ct_frac.proofs.Joining.{found_at, found_before}
 use Rattle.ct_frac.proofs.sum.joined.Goals as goal

@@ -1,6 +1,5 @@
-use Rattle.std.proofs.Common.{refl, true, false, Ok, sym, ◌∙◌, ap, subst}
-use Rattle.ct_algebra.specs.Polynomial.{polys}
-use Rattle.ct_checked.specs.Checked.{Answers}
+use Rattle.ct_frac.proofs.Base.{true, false, Ok, sym, ◌∙◌, ap, subst, polys, Answers}
+use Rattle.std.proofs.Common.{refl}
 use Rattle.ct_frac.proofs.SumLaws.{product-told}
 use Rattle.ct_frac.proofs.sum.product.Goals as goal
 

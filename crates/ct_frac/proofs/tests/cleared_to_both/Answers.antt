@@ -1,4 +1,4 @@
-use Rattle.std.proofs.Common.{◌≡◌, Ok, rules}
+use Rattle.ct_frac.proofs.Base.{◌≡◌, Ok, rules}
 use Rattle.ct_frac.specs.Arithmetic.{checked_wider}
 use Rattle.ct_frac.proofs.CommonDenominators.{wider_ok}
 use Rattle.ct_frac.proofs.tests.cleared_to_both.Goals as goal

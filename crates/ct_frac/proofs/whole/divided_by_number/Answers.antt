@@ -1,7 +1,4 @@
-use Rattle.std.proofs.Common.{sym, ◌∙◌, ap, pos}
-use Rattle.ct_algebra.specs.Monomial.{unit}
-use Rattle.ct_poly.specs.Content.{divided}
-use Rattle.ct_poly.proofs.Contents.{content_is}
+use Rattle.ct_frac.proofs.Base.{sym, ◌∙◌, ap, pos, unit, divided, content_is}
 use Rattle.ct_poly.proofs.WholeDivisors.{divided_by_one}
 use Rattle.ct_frac.proofs.whole.divided_by_number.Goals as goal
 

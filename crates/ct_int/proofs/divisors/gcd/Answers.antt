@@ -1,4 +1,4 @@
-use Rattle.std.proofs.lemmas.Nat.Gcd.{IsGcd-from_mod, IsGcd-from_zero}
+use Rattle.ct_int.proofs.Base.{IsGcd-from_mod, IsGcd-from_zero}
 use Rattle.ct_int.proofs.divisors.gcd.Goals as goal
 
 pub steps-preserved : goal.steps-preserved

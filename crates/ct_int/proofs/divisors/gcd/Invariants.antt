@@ -1,5 +1,4 @@
-use Rattle.std.proofs.Common.{ℕ}
-use Rattle.std.specs.Int.{IsGcd}
+use Rattle.ct_int.proofs.Base.{ℕ, IsGcd}
 use Rattle.ct_int.proofs.divisors.gcd.Given as goal
 
 -- what divides both numbers of a step divides both of the first, and the other way round

@@ -1,7 +1,4 @@
-use Rattle.std.proofs.Common.{rules, ◌∙◌, ap, pos, ◌*ℤ◌, subst, unsigned_abs, ◌≡◌}
-use Rattle.std.specs.Int.{w128, IsGcd, ◌∣◌}
-use Rattle.std.proofs.lemmas.Int.{to_z-of_z}
-use Rattle.std.proofs.Math.Nat.{pos_of_dvd_of_pos, div-mul_cancel}
+use Rattle.ct_int.proofs.Base.{rules, ◌∙◌, ap, pos, ◌*ℤ◌, subst, unsigned_abs, ◌≡◌, w128, IsGcd, ◌∣◌, to_z-of_z, pos_of_dvd_of_pos, div-mul_cancel}
 use Rattle.ct_int.proofs.rat.cancelled.Goals as goal
 
 pub exact_quotient-requires-clause-positive : goal.exact_quotient-requires-clause-positive

@@ -1,6 +1,4 @@
-use Rattle.std.proofs.Common.{rules, sym, pos, subst}
-use Rattle.std.specs.Int.{w128}
-use Rattle.std.proofs.lemmas.Int.{to_z-of_z}
+use Rattle.ct_int.proofs.Base.{rules, sym, pos, subst, w128, to_z-of_z}
 use Rattle.ct_int.proofs.LowestTerms.{lowest-cancelled, IsRational-cancelled}
 use Rattle.ct_int.specs.Rational.{IsLowestTerms, IsCancelled, ratio}
 use Rattle.ct_int.specs.Limits.{IsRational}

@@ -1,8 +1,5 @@
-use Rattle.std.proofs.Common.{◌≡◌, ◌∙◌, ap, arith, pos, ◌*ℤ◌, ◌-ℤ◌, neg_ℤ, ◌/◌, unsigned_abs}
-use Rattle.std.specs.Prelude.{◌<ℤ◌, ◌≤ℤ◌}
-use Rattle.std.proofs.lemmas.Int.{ints, to_z-of_z}
-use Rattle.std.specs.Int.{w128, cast_signed, cast_unsigned}
-use Rattle.std.proofs.Math.Nat.{div-le_self}
+use Rattle.ct_int.proofs.Base.{◌≡◌, ◌∙◌, ap, arith, pos, ◌*ℤ◌, ◌-ℤ◌, neg_ℤ, ◌/◌, unsigned_abs, ◌<ℤ◌, ◌≤ℤ◌, ints, to_z-of_z, w128, cast_signed}
+use Rattle.ct_int.proofs.Base.{cast_unsigned, div-le_self}
 use Rattle.ct_int.proofs.Scaling.{exact-negative, exact-positive}
 use Rattle.ct_int.proofs.wholes.exact_quotient.Goals as goal
 

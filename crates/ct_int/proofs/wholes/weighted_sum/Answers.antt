@@ -1,6 +1,5 @@
-use Rattle.std.proofs.Common.{rules, ◌≡◌, ◌∙◌, ap, ap₂, arith, pos, ◌+◌, ◌*◌, ◌≤◌, ◌+ℤ◌, ◌*ℤ◌, unsigned_abs}
-use Rattle.std.specs.Int.{w128, cast_signed, cast_unsigned}
-use Rattle.std.proofs.lemmas.Int.{ints, to_z-of_z, unsigned_abs-mul}
+use Rattle.ct_int.proofs.Base.{rules, ◌≡◌, ◌∙◌, ap, ap₂, arith, pos, ◌+◌, ◌*◌, ◌≤◌, ◌+ℤ◌, ◌*ℤ◌, unsigned_abs, w128, cast_signed, cast_unsigned, ints}
+use Rattle.ct_int.proofs.Base.{to_z-of_z, unsigned_abs-mul}
 use Rattle.ct_int.specs.Limits.{largest_whole}
 use Rattle.ct_int.proofs.wholes.weighted_sum.Goals as goal
 

@@ -1,5 +1,4 @@
-use Rattle.std.proofs.Common.{rules, ◌∙◌, ap, None}
-use Rattle.std.specs.Prelude.{map, replicate}
+use Rattle.ct_pool.proofs.Base.{rules, ◌∙◌, ap, None, map, replicate}
 use Rattle.ct_pool.specs.Found.{AreFound}
 use Rattle.ct_pool.proofs.Lists.{map_push, each_of_map}
 use Rattle.ct_pool.proofs.Conclusion.{begins, last_found, no_hit_goes, other_hit_goes, hit_goes}

@@ -1,5 +1,4 @@
-use Rattle.std.proofs.Common.{vec_len}
-use Rattle.std.specs.Prelude.{map}
+use Rattle.ct_pool.proofs.Base.{vec_len, map}
 use Rattle.ct_pool.proofs.Conclusion.{Concluding}
 use Rattle.ct_pool.proofs.decision.conclude.Given as goal
 

@@ -1,7 +1,4 @@
-use Rattle.std.proofs.Common.{◌≡◌, ℕ, ◌<◌, List, length, false, sym, subst, arith, rules}
-use Rattle.std.specs.Prelude.{All, map}
-use Rattle.std.proofs.lemmas.List.{length-map}
-use Rattle.ct_core.specs.CompleteList.{DecidedBy}
+use Rattle.ct_pool.proofs.Base.{◌≡◌, ℕ, ◌<◌, List, length, false, sym, subst, arith, rules, All, map, length-map, DecidedBy}
 use Rattle.ct_pool.specs.declared.workers.Worker.{Worker}
 use Rattle.ct_pool.specs.Passes.{PassView}
 use Rattle.ct_pool.specs.Found.{IsFound}

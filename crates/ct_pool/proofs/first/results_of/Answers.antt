@@ -1,6 +1,4 @@
-use Rattle.std.proofs.Common.{rules, ◌≡◌, true, false, ap, ◌∙◌}
-use Rattle.std.specs.Prelude.{map}
-use Rattle.ct_core.specs.CompleteList.{has_ended}
+use Rattle.ct_pool.proofs.Base.{rules, ◌≡◌, true, false, ap, ◌∙◌, map, has_ended}
 use Rattle.ct_pool.specs.declared.workers.Worker.{Worker}
 use Rattle.ct_pool.specs.Passes.{PassView}
 use Rattle.ct_pool.specs.Found.{IsFound, AreFound, key_of}

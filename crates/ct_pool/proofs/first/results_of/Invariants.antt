@@ -1,7 +1,4 @@
-use Rattle.std.proofs.Common.{◌≡◌, ◌+◌, vec_len, true, false}
-use Rattle.std.specs.Prelude.{All, map}
-use Rattle.ct_core.specs.Counting.{Each}
-use Rattle.ct_core.specs.CompleteList.{has_ended}
+use Rattle.ct_pool.proofs.Base.{◌≡◌, ◌+◌, vec_len, true, false, All, map, Each, has_ended}
 use Rattle.ct_pool.specs.Found.{IsFound, AreFound, key_of, key_found}
 use Rattle.ct_pool.proofs.first.results_of.Given as goal
 

@@ -1,5 +1,4 @@
-use Rattle.std.proofs.Common.{rules, ◌≡◌, [], None, false}
-use Rattle.ct_core.specs.Machine.{fresh}
+use Rattle.ct_pool.proofs.Base.{rules, ◌≡◌, [], None, false, fresh}
 use Rattle.ct_pool.specs.declared.workers.Worker.{Worker}
 use Rattle.ct_pool.specs.Passes.{PassView}
 use Rattle.ct_pool.proofs.Lists.{all_push, all_pop}

@@ -1,6 +1,4 @@
-use Rattle.std.proofs.Common.{◌≡◌, ◌+◌, [], vec_len, None, false}
-use Rattle.std.specs.Prelude.{All}
-use Rattle.ct_core.specs.Machine.{fresh}
+use Rattle.ct_pool.proofs.Base.{◌≡◌, ◌+◌, [], vec_len, None, false, All, fresh}
 use Rattle.ct_pool.proofs.first.team_of.Given as goal
 
 abbrev pub invariant-loop-pass : goal.invariant-loop-pass

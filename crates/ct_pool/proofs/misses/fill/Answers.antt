@@ -1,4 +1,4 @@
-use Rattle.std.proofs.Common.{arith, ◌∙◌, length-set, Some}
+use Rattle.ct_pool.proofs.Base.{arith, ◌∙◌, length-set, Some}
 use Rattle.ct_pool.proofs.MissesInOrder.{fills, passes_by}
 use Rattle.ct_pool.proofs.misses.fill.Goals as goal
 

@@ -1,4 +1,4 @@
-use Rattle.std.proofs.Common.{vec_len, ◌≡◌, length}
+use Rattle.ct_pool.proofs.Base.{vec_len, ◌≡◌, length}
 use Rattle.ct_pool.proofs.MissesInOrder.{Filling}
 use Rattle.ct_pool.proofs.misses.fill.Given as goal
 

@@ -1,4 +1,4 @@
-use Rattle.std.proofs.Common.{length, ◌∙◌, ap, None, ◌++◌, ◌∷◌, []}
+use Rattle.ct_pool.proofs.Base.{length, ◌∙◌, ap, None, ◌++◌, ◌∷◌, []}
 use Rattle.ct_pool.proofs.MissesInOrder.{orders, next_at}
 use Rattle.ct_pool.proofs.misses.in_order.Goals as goal
 

@@ -1,4 +1,4 @@
-use Rattle.std.proofs.Common.{vec_len}
+use Rattle.ct_pool.proofs.Base.{vec_len}
 use Rattle.ct_pool.proofs.MissesInOrder.{Ordered}
 use Rattle.ct_pool.proofs.misses.in_order.Given as goal
 

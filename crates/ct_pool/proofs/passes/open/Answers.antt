@@ -1,6 +1,4 @@
-use Rattle.std.proofs.Common.{rules, ◌≡◌, ◌∙◌, sym, ap, subst, length, arith}
-use Rattle.std.specs.Prelude.{All}
-use Rattle.ct_core.specs.Machine.{fresh}
+use Rattle.ct_pool.proofs.Base.{rules, ◌≡◌, ◌∙◌, sym, ap, subst, length, arith, All, fresh}
 use Rattle.ct_pool.specs.Passes.{PassView, passes_of}
 use Rattle.ct_pool.proofs.Opened.{opened_fresh, length-passes_of}
 use Rattle.ct_pool.proofs.passes.open.Goals as goal

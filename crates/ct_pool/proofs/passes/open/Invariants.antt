@@ -1,4 +1,4 @@
-use Rattle.std.proofs.Common.{◌≡◌, []}
+use Rattle.ct_pool.proofs.Base.{◌≡◌, []}
 use Rattle.ct_pool.specs.Passes.{passes_of}
 use Rattle.ct_pool.proofs.passes.open.Given as goal
 

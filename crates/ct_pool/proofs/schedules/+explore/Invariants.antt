@@ -1,4 +1,4 @@
-use Rattle.std.proofs.Common.{◌-◌}
+use Rattle.ct_pool.proofs.Base.{◌-◌}
 use Rattle.ct_pool.proofs.schedules.+explore.Given as goal
 
 abbrev pub decreases-explore : goal.decreases-explore

@@ -1,6 +1,4 @@
-use Rattle.std.proofs.Common.{◌≡◌, ◌+◌, vec_len}
-use Rattle.std.specs.Prelude.{All}
-use Rattle.ct_core.specs.Machine.{fresh}
+use Rattle.ct_pool.proofs.Base.{◌≡◌, ◌+◌, vec_len, All, fresh}
 use Rattle.ct_pool.proofs.schedules.hands_of.Given as goal
 
 abbrev pub invariant-loop-pass : goal.invariant-loop-pass

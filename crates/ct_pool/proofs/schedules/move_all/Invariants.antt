@@ -1,5 +1,4 @@
-use Rattle.std.proofs.Common.{◌≡◌, vec_len}
-use Rattle.std.specs.Prelude.{All}
+use Rattle.ct_pool.proofs.Base.{◌≡◌, vec_len, All}
 use Rattle.ct_pool.proofs.schedules.move_all.Given as goal
 
 abbrev pub invariant-loop-which : goal.invariant-loop-which

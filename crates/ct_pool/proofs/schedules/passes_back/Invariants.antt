@@ -1,5 +1,4 @@
-use Rattle.std.proofs.Common.{◌≡◌, ◌+◌, vec_len}
-use Rattle.std.specs.Prelude.{All}
+use Rattle.ct_pool.proofs.Base.{◌≡◌, ◌+◌, vec_len, All}
 use Rattle.ct_pool.proofs.schedules.passes_back.Given as goal
 
 abbrev pub invariant-loop-hand : goal.invariant-loop-hand

@@ -1,6 +1,4 @@
-use Rattle.std.proofs.Common.{◌≡◌, ℕ, ◌+◌, ◌-◌, ◌<◌, ◌++◌, true, false, None, Some, Option}
-use Rattle.std.specs.Prelude.{map, IfSome}
-use Rattle.ct_core.specs.Kept.{list_of}
+use Rattle.ct_pool.proofs.Base.{◌≡◌, ℕ, ◌+◌, ◌-◌, ◌<◌, ◌++◌, true, false, None, Some, Option, map, IfSome, list_of}
 use Rattle.ct_pool.specs.Passes.{may_claim}
 use Rattle.ct_pool.specs.Found.{AreMisses}
 use Rattle.ct_pool.proofs.workers.work.Given as goal

@@ -1,5 +1,4 @@
-use Rattle.std.proofs.lemmas.Result.{IfOk-weaker}
-use Rattle.ct_ore.specs.Naming.{actions_of}
+use Rattle.ct_reduce.proofs.Base.{IfOk-weaker, actions_of}
 use Rattle.ct_reduce.proofs.ReductionMeans.{answer_means}
 use Rattle.ct_reduce.proofs.reduction.left_reduce.Goals as goal
 

@@ -1,4 +1,4 @@
-use Rattle.std.proofs.Common.{◌≡◌, ◌++◌, length}
+use Rattle.ct_reduce.proofs.Base.{◌≡◌, ◌++◌, length}
 use Rattle.ct_reduce.specs.Reduction.{no_cofactors}
 use Rattle.ct_reduce.proofs.reduction.no_cofactors.Given as goal
 

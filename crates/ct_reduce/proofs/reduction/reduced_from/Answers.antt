@@ -1,5 +1,4 @@
-use Rattle.std.proofs.Common.{◌∙◌}
-use Rattle.ct_ore.specs.Naming.{actions_of}
+use Rattle.ct_reduce.proofs.Base.{◌∙◌, actions_of}
 use Rattle.ct_reduce.specs.Views.{reduction_of, reducible_of, step_of}
 use Rattle.ct_reduce.proofs.ReductionEnds.{reduction_is}
 use Rattle.ct_reduce.proofs.Turns.{place_known, turned}

@@ -1,5 +1,4 @@
-use Rattle.std.proofs.Common.{◌≡◌, length}
-use Rattle.ct_ore.specs.Naming.{actions_of}
+use Rattle.ct_reduce.proofs.Base.{◌≡◌, length, actions_of}
 use Rattle.ct_reduce.specs.Reduction.{reduction_from, reduction_turn, reduction_rank}
 use Rattle.ct_reduce.specs.Views.{reduction_of}
 use Rattle.ct_reduce.proofs.reduction.reduced_from.Given as goal

@@ -1,4 +1,4 @@
-use Rattle.std.proofs.Common.{◌≡◌, ◌+◌, length}
+use Rattle.ct_reduce.proofs.Base.{◌≡◌, ◌+◌, length}
 use Rattle.ct_reduce.specs.Reduction.{first_reducer, first_reducer_from}
 use Rattle.ct_reduce.proofs.search.first_reducer.Given as goal
 

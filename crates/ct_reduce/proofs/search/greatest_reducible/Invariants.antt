@@ -1,4 +1,4 @@
-use Rattle.std.proofs.Common.{◌≡◌, length}
+use Rattle.ct_reduce.proofs.Base.{◌≡◌, length}
 use Rattle.ct_ore.specs.Terms.{op_entries}
 use Rattle.ct_reduce.specs.Reduction.{first_reducible}
 use Rattle.ct_reduce.proofs.search.greatest_reducible.Given as goal

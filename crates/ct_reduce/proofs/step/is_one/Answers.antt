@@ -1,4 +1,4 @@
-use Rattle.std.proofs.Common.{◌≡◌, ◌↔◌, IsTrue, subst}
+use Rattle.ct_reduce.proofs.Base.{◌≡◌, ◌↔◌, IsTrue, subst}
 use Rattle.ct_reduce.proofs.StepValues.{told_one}
 use Rattle.ct_reduce.proofs.step.is_one.Goals as goal
 

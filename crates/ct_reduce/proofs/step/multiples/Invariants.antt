@@ -1,5 +1,4 @@
-use Rattle.std.proofs.Common.{◌≡◌, length, []}
-use Rattle.ct_ore.specs.Naming.{actions_of}
+use Rattle.ct_reduce.proofs.Base.{◌≡◌, length, [], actions_of}
 use Rattle.ct_reduce.specs.Reduction.{checked_multiples}
 use Rattle.ct_reduce.proofs.step.multiples.Given as goal
 

@@ -1,5 +1,4 @@
-use Rattle.std.proofs.Common.{◌∙◌, sym}
-use Rattle.std.proofs.lemmas.Result.{IfOk-weaker}
+use Rattle.ct_reduce.proofs.Base.{◌∙◌, sym, IfOk-weaker}
 use Rattle.ct_algebra.specs.Substitution.{one_is}
 use Rattle.ct_reduce.proofs.step.one.Goals as goal
 

@@ -1,4 +1,4 @@
-use Rattle.std.proofs.Common.{◌∙◌, sym}
+use Rattle.ct_reduce.proofs.Base.{◌∙◌, sym}
 use Rattle.ct_reduce.proofs.StepsKeepIdentity.{leading_nonzero}
 use Rattle.ct_reduce.proofs.step.plan.Goals as goal
 

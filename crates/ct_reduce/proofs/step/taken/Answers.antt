@@ -1,12 +1,6 @@
-use Rattle.std.proofs.Common.{◌≡◌, ◌∙◌, ap, ap₂, sym, Ok, get_or, List}
+use Rattle.ct_reduce.proofs.Base.{◌≡◌, ◌∙◌, ap, ap₂, sym, Ok, get_or, List, get_or_read, set-set, Name, Action, Operator, no_operator, Reduction}
+use Rattle.ct_reduce.proofs.Base.{actions_of, checked_product, checked_difference, checked_sum}
 use Rattle.std.proofs.Math.ListN.{set}
-use Rattle.std.proofs.lemmas.List.{get_or_read, set-set}
-use Rattle.ct_algebra.specs.Names.{Name}
-use Rattle.ct_algebra.specs.Actions.{Action}
-use Rattle.ct_algebra.specs.Operators.{Operator, no_operator}
-use Rattle.ct_algebra.specs.Membership.{Reduction}
-use Rattle.ct_ore.specs.Naming.{actions_of}
-use Rattle.ct_ore.specs.Measures.{checked_product, checked_difference, checked_sum}
 use Rattle.ct_reduce.specs.Reduction.{Step, checked_taken}
 use Rattle.ct_reduce.specs.Views.{step_of, reduction_of}
 use Rattle.ct_reduce.proofs.step.taken.Goals as goal

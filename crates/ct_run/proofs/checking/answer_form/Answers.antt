@@ -1,7 +1,5 @@
-use Rattle.std.proofs.Common.{◌≡◌, ap, arith, length, rules, Ok}
+use Rattle.ct_run.proofs.Base.{◌≡◌, ap, arith, length, rules, Ok, reading_of, summed_act}
 use Rattle.ct_ore.specs.Answers.{certificate_of}
-use Rattle.ct_problem.specs.ReadProblem.{reading_of}
-use Rattle.ct_problem.proofs.SummedActions.{summed_act}
 use Rattle.ct_run.specs.Setup.{listed, checked_setup}
 use Rattle.ct_run.proofs.CertificateFits.{certificate_fits, setup_length}
 use Rattle.ct_run.proofs.checking.answer_form.Goals as goal

@@ -1,4 +1,4 @@
-use Rattle.std.proofs.Common.{◌≡◌, length}
+use Rattle.ct_run.proofs.Base.{◌≡◌, length}
 use Rattle.std.specs.List.{list_all}
 use Rattle.std.specs.Option.{is_none}
 use Rattle.ct_run.proofs.checking.has_no_den.Given as goal

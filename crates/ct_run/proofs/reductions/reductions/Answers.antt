@@ -1,8 +1,5 @@
-use Rattle.std.proofs.Common.{ap, map}
-use Rattle.ct_ore.specs.Naming.{actions_of}
-use Rattle.ct_reduce.specs.Views.{reduction_of}
+use Rattle.ct_run.proofs.Base.{ap, map, actions_of, reduction_of, each_behind}
 use Rattle.ct_run.specs.Reducing.{target_reduction}
-use Rattle.ct_checked.proofs.Traversals.{each_behind}
 use Rattle.ct_run.proofs.reductions.reductions.Goals as goal
 
 pub reducing-init : goal.reducing-init

@@ -1,8 +1,5 @@
-use Rattle.std.proofs.Common.{◌≡◌, length, map}
-use Rattle.ct_ore.specs.Naming.{actions_of}
-use Rattle.ct_reduce.specs.Views.{reduction_of}
+use Rattle.ct_run.proofs.Base.{◌≡◌, length, map, actions_of, reduction_of, behind}
 use Rattle.ct_run.specs.Reducing.{checked_reductions, target_reduction}
-use Rattle.ct_checked.proofs.Traversals.{behind}
 use Rattle.ct_run.proofs.reductions.reductions.Given as goal
 
 -- what is done and what is left

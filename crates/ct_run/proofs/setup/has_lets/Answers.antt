@@ -1,4 +1,4 @@
-use Rattle.std.proofs.Common.{ap, ◌∙◌, not, map, string_bytes}
+use Rattle.ct_run.proofs.Base.{ap, ◌∙◌, not, map, string_bytes}
 use Rattle.std.proofs.lemmas.List.{length-map}
 use Rattle.ct_run.proofs.NoLets.{empty_definitions}
 use Rattle.ct_run.proofs.setup.has_lets.Goals as goal

@@ -1,6 +1,5 @@
-use Rattle.ct_ore.specs.Naming.{actions_of}
+use Rattle.ct_run.proofs.Base.{actions_of, each_behind}
 use Rattle.ct_run.specs.Setup.{plain_generator}
-use Rattle.ct_checked.proofs.Traversals.{each_behind}
 use Rattle.ct_run.proofs.setup.plain_generators.Goals as goal
 
 pub valuing-init : goal.valuing-init

@@ -1,8 +1,5 @@
-use Rattle.std.proofs.Common.{◌≡◌, length}
-use Rattle.ct_ore.specs.Naming.{actions_of}
-use Rattle.ct_problem.specs.WellFormed.{Each, IsOperator}
+use Rattle.ct_run.proofs.Base.{◌≡◌, length, actions_of, Each, IsOperator, behind}
 use Rattle.ct_run.specs.Setup.{plain_generator, plain_generators}
-use Rattle.ct_checked.proofs.Traversals.{behind}
 use Rattle.ct_run.proofs.setup.plain_generators.Given as goal
 
 -- what is done and what is left

@@ -1,4 +1,4 @@
-use Rattle.std.proofs.Common.{ap, ◌∙◌}
+use Rattle.ct_run.proofs.Base.{ap, ◌∙◌}
 use Rattle.std.proofs.KnownBytes.{Keeps-refl}
 use Rattle.ct_run.specs.Out.{out}
 use Rattle.ct_run.specs.declared.status.Status.TheVariants.{ReadFault, NoMemory}

@@ -1,4 +1,4 @@
-use Rattle.std.proofs.Common.{rules}
+use Rattle.ct_run.proofs.Base.{rules}
 use Rattle.ct_run.proofs.Parts.{pairing_more}
 use Rattle.ct_run.proofs.values.parts.Goals as goal
 

@@ -1,4 +1,4 @@
-use Rattle.std.proofs.Common.{length}
+use Rattle.ct_run.proofs.Base.{length}
 use Rattle.std.specs.Vec.Iter.{into_iter_items}
 use Rattle.ct_run.proofs.Parts.{IsPairing}
 use Rattle.ct_run.proofs.values.parts.Given as goal

@@ -1,6 +1,4 @@
-use Rattle.ct_ore.specs.Naming.{actions_of}
-use Rattle.ct_expr.specs.Value.{checked_polynomial}
-use Rattle.ct_checked.proofs.Traversals.{each_behind}
+use Rattle.ct_run.proofs.Base.{actions_of, checked_polynomial, each_behind}
 use Rattle.ct_run.proofs.values.polynomials.Goals as goal
 
 pub valuing-init : goal.valuing-init

@@ -1,9 +1,5 @@
-use Rattle.std.proofs.Common.{◌≡◌, length}
-use Rattle.ct_ore.specs.Naming.{actions_of}
-use Rattle.ct_problem.specs.WellFormed.{Each, IsPolynomial}
-use Rattle.ct_expr.specs.Value.{checked_polynomial}
+use Rattle.ct_run.proofs.Base.{◌≡◌, length, actions_of, Each, IsPolynomial, checked_polynomial, behind}
 use Rattle.ct_run.specs.Checking.{checked_polynomials}
-use Rattle.ct_checked.proofs.Traversals.{behind}
 use Rattle.ct_run.proofs.values.polynomials.Given as goal
 
 -- what is done and what is left

@@ -1,8 +1,6 @@
-use Rattle.std.proofs.Common.{ap, map}
-use Rattle.ct_ore.specs.Naming.{actions_of}
+use Rattle.ct_run.proofs.Base.{ap, map, actions_of, each_behind}
 use Rattle.ct_run.specs.Checking.{checked_quotient}
 use Rattle.ct_run.specs.Fractions.{pair_of}
-use Rattle.ct_checked.proofs.Traversals.{each_behind}
 use Rattle.ct_run.proofs.values.quotients.Goals as goal
 
 pub valuing-init : goal.valuing-init

@@ -1,9 +1,6 @@
-use Rattle.std.proofs.Common.{◌≡◌, length, map}
-use Rattle.ct_ore.specs.Naming.{actions_of}
-use Rattle.ct_problem.specs.WellFormed.{Each, IsQuotient}
+use Rattle.ct_run.proofs.Base.{◌≡◌, length, map, actions_of, Each, IsQuotient, behind}
 use Rattle.ct_run.specs.Fractions.{pair_of}
 use Rattle.ct_run.specs.Checking.{checked_quotient, checked_quotients}
-use Rattle.ct_checked.proofs.Traversals.{behind}
 use Rattle.ct_run.proofs.values.quotients.Given as goal
 
 -- what is done and what is left

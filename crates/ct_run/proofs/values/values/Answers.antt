@@ -1,6 +1,4 @@
-use Rattle.ct_ore.specs.Naming.{actions_of}
-use Rattle.ct_expr.specs.Value.{value_of}
-use Rattle.ct_checked.proofs.Traversals.{each_behind}
+use Rattle.ct_run.proofs.Base.{actions_of, value_of, each_behind}
 use Rattle.ct_run.proofs.values.values.Goals as goal
 
 pub valuing-init : goal.valuing-init

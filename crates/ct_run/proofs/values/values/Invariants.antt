@@ -1,9 +1,5 @@
-use Rattle.std.proofs.Common.{◌≡◌, length}
-use Rattle.ct_ore.specs.Naming.{actions_of}
-use Rattle.ct_problem.specs.WellFormed.{Each, IsOperator}
-use Rattle.ct_expr.specs.Value.{value_of}
+use Rattle.ct_run.proofs.Base.{◌≡◌, length, actions_of, Each, IsOperator, value_of, behind}
 use Rattle.ct_run.specs.Setup.{checked_values}
-use Rattle.ct_checked.proofs.Traversals.{behind}
 use Rattle.ct_run.proofs.values.values.Given as goal
 
 -- what is done and what is left

@@ -1,5 +1,4 @@
-use Rattle.std.proofs.Common.{◌/◌, ◌∙◌, ap, ap₂, sym, subst, arith}
-use Rattle.ct_ore.specs.Wholes.{over_whole}
+use Rattle.ct_expr.proofs.Base.{◌/◌, ◌∙◌, ap, ap₂, sym, subst, arith, over_whole}
 use Rattle.ct_expr.specs.ValueArithmetic.{Value, lowest}
 use Rattle.ct_expr.proofs.ValueArithmetic.{IsFactor, Divides, divisor_fits, quotient_fits, lowest_one}
 use Rattle.ct_expr.proofs.value.Value.lowest.Goals as goal

@@ -1,4 +1,4 @@
-use Rattle.std.proofs.Common.{◌≡◌, sym, ◌∙◌, ap, subst, rules}
+use Rattle.ct_frac.proofs.Base.{◌≡◌, sym, ◌∙◌, ap, subst, rules}
 use Rattle.ct_frac.specs.Arithmetic.{negative}
 use Rattle.ct_frac.specs.Written.{IsWritten, value}
 use Rattle.ct_frac.proofs.Fractions.{negative_written, negative-value}

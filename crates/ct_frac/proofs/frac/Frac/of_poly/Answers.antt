@@ -1,4 +1,4 @@
-use Rattle.std.proofs.Common.{sym, ◌∙◌, ap, subst}
+use Rattle.ct_frac.proofs.Base.{sym, ◌∙◌, ap, subst}
 use Rattle.ct_frac.specs.Written.{IsWritten, value}
 use Rattle.ct_frac.proofs.Fractions.{whole-value}
 use Rattle.ct_frac.proofs.NormalLaws.{whole_written}

@@ -1,5 +1,4 @@
-use Rattle.std.proofs.Common.{◌∙◌, ap}
-use Rattle.std.proofs.lemmas.Result.{IfOk-weaker}
+use Rattle.ct_frac.proofs.Base.{◌∙◌, ap, IfOk-weaker}
 use Rattle.ct_frac.specs.Written.{value}
 use Rattle.ct_frac.proofs.NormalLaws.{normal-value}
 use Rattle.ct_frac.proofs.frac.Frac.over.Goals as goal

@@ -1,4 +1,4 @@
-use Rattle.ct_algebra.specs.Names.{name_with}
+use Rattle.ct_frac.proofs.Base.{name_with}
 use Rattle.ct_frac.specs.Symbols.{checked_sigma}
 use Rattle.ct_frac.proofs.ShiftedFactors.{sigma-value}
 use Rattle.ct_frac.proofs.SumLaws.{answers_ok}

@@ -1,8 +1,5 @@
-use Rattle.std.proofs.Common.{rules, sym, ◌∙◌, ap₂, pos, ◌+ℤ◌, ◌*ℤ◌, subst, unsigned_abs, inl, inr, ◌/◌, ◌*◌, ◌+◌, ◌<◌, ◌≤◌}
-use Rattle.std.specs.Int.{w128}
-use Rattle.std.proofs.lemmas.Int.{to_z-of_z}
-use Rattle.std.proofs.lemmas.Result.{err_from_is_err_and}
-use Rattle.std.proofs.Math.Nat.{pos_of_dvd_of_pos}
+use Rattle.ct_int.proofs.Base.{rules, sym, ◌∙◌, ap₂, pos, ◌+ℤ◌, ◌*ℤ◌, subst, unsigned_abs, inl, inr, ◌/◌, ◌*◌, ◌+◌, ◌<◌, ◌≤◌, w128, to_z-of_z}
+use Rattle.ct_int.proofs.Base.{err_from_is_err_and, pos_of_dvd_of_pos}
 use Rattle.ct_int.proofs.OperationLaws.{lowest-sum, sum-fits, sum_den-positive}
 use Rattle.ct_int.specs.Rational.{ratio, IsLowestTerms}
 use Rattle.ct_int.specs.Limits.{largest_whole}

@@ -1,5 +1,4 @@
-use Rattle.std.proofs.Common.{◌≡◌, subst, ◌∙◌, ap, ◌<◌}
-use Rattle.std.proofs.lemmas.Result.{IfOk-weaker}
+use Rattle.ct_int.proofs.Base.{◌≡◌, subst, ◌∙◌, ap, ◌<◌, IfOk-weaker}
 use Rattle.ct_int.proofs.OperationLaws.{product_of_ratios-reciprocal}
 use Rattle.ct_int.specs.Rational.{Ratio, IsLowestTerms, product_of_ratios, quotient_of_ratios}
 use Rattle.ct_int.specs.Limits.{LowestTermsPass, RefusesWhere}

@@ -1,7 +1,5 @@
-use Rattle.std.proofs.Common.{rules, ◌≡◌, ℤ, sym, ◌∙◌, ap₂, pos, ◌*ℤ◌, ◌*◌, ◌<◌, subst, unsigned_abs, inl, inr}
-use Rattle.std.specs.Int.{w128}
-use Rattle.std.proofs.lemmas.Int.{to_z-of_z, unsigned_abs-mul}
-use Rattle.std.proofs.lemmas.Result.{err_from_is_err_and}
+use Rattle.ct_int.proofs.Base.{rules, ◌≡◌, ℤ, sym, ◌∙◌, ap₂, pos, ◌*ℤ◌, ◌*◌, ◌<◌, subst, unsigned_abs, inl, inr, w128, to_z-of_z, unsigned_abs-mul}
+use Rattle.ct_int.proofs.Base.{err_from_is_err_and}
 use Rattle.ct_int.proofs.LowestTerms.{lowest-product, product-fits}
 use Rattle.ct_int.specs.Rational.{Ratio, ratio, IsCancelled, IsLowestTerms, product_of_ratios}
 use Rattle.ct_int.specs.Limits.{IsRational, largest_whole}

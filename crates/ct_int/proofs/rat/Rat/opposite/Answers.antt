@@ -1,6 +1,4 @@
-use Rattle.std.proofs.Common.{◌≡◌, sym, arith, pos, ◌-ℤ◌, neg_ℤ, subst}
-use Rattle.std.specs.Int.{w128, cast_signed, cast_unsigned}
-use Rattle.std.proofs.lemmas.Int.{ints}
+use Rattle.ct_int.proofs.Base.{◌≡◌, sym, arith, pos, ◌-ℤ◌, neg_ℤ, subst, w128, cast_signed, cast_unsigned, ints}
 use Rattle.ct_int.proofs.OperationLaws.{IsRational-opposite}
 use Rattle.ct_int.specs.Rational.{ratio}
 use Rattle.ct_int.specs.Limits.{IsRational}

@@ -1,12 +1,10 @@
-use Rattle.std.proofs.Common.{rules, ℕ, ℤ, ◌≡◌, sym, ◌∙◌, ap, ap₂, arith, pos, neg_ℤ, subst, unsigned_abs}
-use Rattle.std.specs.Prelude.{◌<ℤ◌, ◌≤ℤ◌, ◌≢◌}
-use Rattle.std.specs.Int.{w128, cast_signed}
-use Rattle.std.proofs.lemmas.Int.{ints, to_z-of_z}
+use Rattle.ct_int.proofs.Base.{rules, ℕ, ℤ, ◌≡◌, sym, ◌∙◌, ap, ap₂, arith, pos, neg_ℤ, subst, unsigned_abs, ◌<ℤ◌, ◌≤ℤ◌, ◌≢◌, w128, cast_signed, ints}
+use Rattle.ct_int.proofs.Base.{to_z-of_z}
 use Rattle.ct_int.proofs.OperationLaws.{IsRational-reciprocal, ratio-negative, ratio-positive}
 use Rattle.ct_int.specs.Rational.{Ratio, ratio}
 use Rattle.ct_int.specs.Limits.{IsRational}
-use Rattle.ct_int.proofs.rat.Rat.reciprocal.Goals as goal
 use Rattle.ct_int.proofs.rat.Rat.reciprocal.Goals.{then-self-lt0, else-self-lt0}
+use Rattle.ct_int.proofs.rat.Rat.reciprocal.Goals as goal
 
 pub invariant_of-result : goal.invariant_of-result
 invariant_of-result c =

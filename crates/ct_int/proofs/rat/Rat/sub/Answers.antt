@@ -1,5 +1,4 @@
-use Rattle.std.proofs.Common.{◌≡◌, subst, ◌∙◌, ap, sym}
-use Rattle.std.proofs.lemmas.Result.{IfOk-weaker}
+use Rattle.ct_int.proofs.Base.{◌≡◌, subst, ◌∙◌, ap, sym, IfOk-weaker}
 use Rattle.ct_int.proofs.OperationLaws.{sum_of_ratios-opposite, SumPasses-opposite, SumPasses-to_opposite, refuses-same}
 use Rattle.ct_int.specs.Rational.{IsLowestTerms, sum_of_ratios, difference_of_ratios}
 use Rattle.ct_int.specs.Limits.{SumPasses}

@@ -1,4 +1,4 @@
-use Rattle.std.proofs.Common.{◌≡◌, ◌∙◌, sym, ap, subst, true, arith}
+use Rattle.ct_pool.proofs.Base.{◌≡◌, ◌∙◌, sym, ap, subst, true, arith}
 use Rattle.ct_pool.specs.Passes.{may_claim, PassView}
 use Rattle.ct_pool.proofs.RuleByWorkers.{claims_as}
 use Rattle.ct_pool.proofs.claims.Claims.claim.Goals as goal

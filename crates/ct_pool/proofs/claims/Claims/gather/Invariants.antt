@@ -1,5 +1,4 @@
-use Rattle.std.proofs.Common.{◌≡◌, ◌++◌, ◌+◌, length, vec_len}
-use Rattle.std.specs.Prelude.{map, reverse, All}
+use Rattle.ct_pool.proofs.Base.{◌≡◌, ◌++◌, ◌+◌, length, vec_len, map, reverse, All}
 use Rattle.ct_pool.proofs.claims.Claims.gather.Given as goal
 
 abbrev pub invariant-loop-pass : goal.invariant-loop-pass

@@ -1,5 +1,4 @@
-use Rattle.std.proofs.Common.{◌≡◌, ◌∙◌, sym, ap, subst, true, arith, Option, ℕ}
-use Rattle.ct_core.specs.Steps.{some_and, may_end}
+use Rattle.ct_pool.proofs.Base.{◌≡◌, ◌∙◌, sym, ap, subst, true, arith, Option, ℕ, some_and, may_end}
 use Rattle.ct_pool.specs.Passes.{PassView, may_hit}
 use Rattle.ct_pool.proofs.RuleByWorkers.{hits_as}
 use Rattle.ct_pool.proofs.claims.Claims.hit.Goals as goal

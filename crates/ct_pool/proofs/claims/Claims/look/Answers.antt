@@ -1,6 +1,4 @@
-use Rattle.std.proofs.Common.{◌∙◌, sym, ap, arith}
-use Rattle.ct_core.specs.Steps.{is_legal}
-use Rattle.ct_core.specs.declared.event.Event.TheVariants.{Look}
+use Rattle.ct_pool.proofs.Base.{◌∙◌, sym, ap, arith, is_legal, Look}
 use Rattle.ct_pool.proofs.RuleByWorkers.{looks_as}
 use Rattle.ct_pool.proofs.claims.Claims.look.Goals as goal
 

@@ -1,4 +1,4 @@
-use Rattle.std.proofs.Common.{◌∙◌, sym, ap, arith}
+use Rattle.ct_pool.proofs.Base.{◌∙◌, sym, ap, arith}
 use Rattle.ct_pool.proofs.RuleByRoot.{merges_key}
 use Rattle.ct_pool.proofs.claims.Claims.take_back.Goals as goal
 

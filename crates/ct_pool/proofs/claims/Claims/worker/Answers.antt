@@ -1,4 +1,4 @@
-use Rattle.std.proofs.Common.{◌<◌, ◌∙◌, sym, ap, subst, arith}
+use Rattle.ct_pool.proofs.Base.{◌<◌, ◌∙◌, sym, ap, subst, arith}
 use Rattle.ct_pool.specs.Passes.{RootView}
 use Rattle.ct_pool.proofs.RuleByRoot.{splits_key}
 use Rattle.ct_pool.proofs.claims.Claims.worker.Goals as goal
