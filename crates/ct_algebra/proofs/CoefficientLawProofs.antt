@@ -16,7 +16,8 @@ use Rattle.ct_algebra.specs.Coefficients.{is_chosen, inside, outside, term_in, c
 use Rattle.ct_algebra.specs.CoefficientLaws.{IsIn, CoefficientsInNames}
 use Rattle.ct_algebra.proofs.MonomialLists.{cmp-other, same_or_other}
 use Rattle.ct_algebra.proofs.PolynomialLawProofs.{finite_maps}
-use Rattle.ct_algebra.proofs.CoefficientLaws.{exp-inside, exp-outside, inside-·, outside-·, outside-inside, outside_without, coefficient_in-term, coefficient_in_hom, coefficient_in-free, coefficient_in-sum, coefficient_in-product}
+use Rattle.ct_algebra.proofs.CoefficientLaws.{exp-inside, exp-outside, inside-·, outside-·, outside-inside, outside_without, coefficient_in-term}
+use Rattle.ct_algebra.proofs.CoefficientLaws.{coefficient_in_hom, coefficient_in-free, coefficient_in-sum, coefficient_in-product}
 
 -- ---- chosen places are those of the names
 

@@ -14,7 +14,8 @@ use Rattle.ct_algebra.specs.Polynomial.{Polynomial, polys, polys_domain, plus, t
 use Rattle.ct_algebra.specs.Substitution.{P, term, number, name, agree, same_ring_hom, term-*}
 use Rattle.ct_algebra.specs.Laws.Derivations.{same_derivation}
 use Rattle.ct_algebra.specs.Actions.{Action, Shift, Derive, Still, sigma, delta}
-use Rattle.ct_algebra.specs.Operators.{Operator, operator_set, operator_group, term_of, sum_of_operators, product_of, symbol_before, multiple, product_of-sum_left}
+use Rattle.ct_algebra.specs.Operators.{Operator, operator_set, operator_group, term_of, sum_of_operators, product_of, symbol_before, multiple}
+use Rattle.ct_algebra.specs.Operators.{product_of-sum_left}
 use Rattle.ct_algebra.specs.OnPolynomials.{made_of}
 use Rattle.ct_algebra.specs.FreeOf.{IsWithout, IsOver}
 use Rattle.ct_algebra.specs.Fractions.{Ratio, by_values, fraction_set}
@@ -24,7 +25,8 @@ use Rattle.ct_algebra.specs.FieldLaws.{embedded, value_of}
 use Rattle.ct_algebra.specs.Determined.{OperationsAreDetermined}
 use Rattle.ct_algebra.proofs.AppliedOperators.{multiple-one}
 use Rattle.ct_algebra.proofs.OperatorTerms.{sums_are, term_of-single}
-use Rattle.ct_algebra.proofs.ProductRule.{product_of-symbol, product_of-split, multiple-one_term, product_of-term_of, symbols_commute, symbol_before-one}
+use Rattle.ct_algebra.proofs.ProductRule.{product_of-symbol, product_of-split, multiple-one_term, product_of-term_of, symbols_commute}
+use Rattle.ct_algebra.proofs.ProductRule.{symbol_before-one}
 use Rattle.ct_algebra.proofs.SymbolLawProofs.{respect_the_ring, shifts, derivations}
 use Rattle.ct_algebra.proofs.OperatorLawProofs.{acts_on_polynomials}
 use Rattle.ct_algebra.proofs.FieldLawProofs.{extends, fractions}

@@ -9,7 +9,8 @@ use Rattle.ct_algebra.specs.Fractions.{Ratio, same_value, value_same, by_values,
 use Rattle.ct_algebra.specs.Division.{embed-sum, embed-product, embed_injective, mul-inverse, fractions_domain}
 use Rattle.ct_algebra.specs.FractionOre.{embed-σ, embed-δ}
 use Rattle.ct_algebra.specs.Field.{field, plain, coefficients}
-use Rattle.ct_algebra.specs.FieldLaws.{FieldIsARing, FieldExtendsPolynomials, FieldHasInverses, FieldIsFractions, SymbolsRespectTheField, embedded, value_of}
+use Rattle.ct_algebra.specs.FieldLaws.{FieldIsARing, FieldExtendsPolynomials, FieldHasInverses, FieldIsFractions, SymbolsRespectTheField, embedded}
+use Rattle.ct_algebra.specs.FieldLaws.{value_of}
 
 pub ring : FieldIsARing
 ring = record {

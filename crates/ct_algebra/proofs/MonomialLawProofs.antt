@@ -4,7 +4,8 @@ use Rattle.std.proofs.Common.{sym, ◌∙◌, ap, arith, eq-eqb, ne_eqb, Less, E
 use Rattle.std.specs.Cmp.{nat_cmp_is}
 use Rattle.std.specs.Cmp.Lexicographic.{slice_cmp}
 use Rattle.std.specs.Ordering.{ordering_then}
-use Rattle.ct_algebra.specs.Monomial.{Mono, exp, exp-mono_of, exp-unit, exp-·, same_mono, mono_cmp, mono_cmp_total, mono_tied, mono_ordered, graded, total, sum_six, less_of_total}
+use Rattle.ct_algebra.specs.Monomial.{Mono, exp, exp-mono_of, exp-unit, exp-·, same_mono, mono_cmp, mono_cmp_total, mono_tied, mono_ordered, graded}
+use Rattle.ct_algebra.specs.Monomial.{total, sum_six, less_of_total}
 use Rattle.ct_algebra.specs.Names.{place, place_small, same_place, exp-symbol}
 use Rattle.ct_algebra.specs.MonomialLaws.{MonomialsAreExponents, OrderIsGraded}
 

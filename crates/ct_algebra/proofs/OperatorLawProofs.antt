@@ -15,12 +15,16 @@ use Rattle.ct_algebra.specs.Names.{Name, symbol, symbols, power_unit, power-symb
 use Rattle.ct_algebra.specs.Polynomial.{Polynomial, polys, polys_domain, plus, times}
 use Rattle.ct_algebra.specs.Substitution.{name}
 use Rattle.ct_algebra.specs.Actions.{Action, sigma, delta, sigma_by, delta_by}
-use Rattle.ct_algebra.specs.Operators.{operator_group, operator_of, term_of, no_operator, sum_of_operators, negative, product_of, product_of_assoc, product_of-sum, product_of-sum_left, apply-product_of}
+use Rattle.ct_algebra.specs.Operators.{operator_group, operator_of, term_of, no_operator, sum_of_operators, negative, product_of, product_of_assoc}
+use Rattle.ct_algebra.specs.Operators.{product_of-sum, product_of-sum_left, apply-product_of}
 use Rattle.ct_algebra.specs.OnPolynomials.{on_polynomials, symbol_by, by_symbol, made_of}
-use Rattle.ct_algebra.specs.OperatorLaws.{OperatorsAreAGroup, OperatorsAreFiniteMaps, OperatorsAreSumsOfTerms, ProductFollowsRule, ShiftPassesItsName, DerivationPassesItsName, ProductHasUnit, ProductDistributes, ProductIsAssociative, ProductActsOnPolynomials, FieldOperatorsFollowRule}
+use Rattle.ct_algebra.specs.OperatorLaws.{OperatorsAreAGroup, OperatorsAreFiniteMaps, OperatorsAreSumsOfTerms, ProductFollowsRule, ShiftPassesItsName}
+use Rattle.ct_algebra.specs.OperatorLaws.{DerivationPassesItsName, ProductHasUnit, ProductDistributes, ProductIsAssociative, ProductActsOnPolynomials}
+use Rattle.ct_algebra.specs.OperatorLaws.{FieldOperatorsFollowRule}
 use Rattle.ct_algebra.proofs.AppliedOperators.{apply-sum, apply-term_of}
 use Rattle.ct_algebra.proofs.OperatorTerms.{at-term_of, pick-same, pick-other, at-multiple, term_of-zero}
-use Rattle.ct_algebra.proofs.ProductRule.{product_of-polynomial, product_of-symbol, product_of-split, symbol_before-term_of, one-product_of, product_of-one}
+use Rattle.ct_algebra.proofs.ProductRule.{product_of-polynomial, product_of-symbol, product_of-split, symbol_before-term_of, one-product_of}
+use Rattle.ct_algebra.proofs.ProductRule.{product_of-one}
 use Rattle.ct_algebra.proofs.SymbolLawProofs.{shifts, derivations}
 use Rattle.ct_algebra.proofs.TermProducts.{sum_of-append, sum_of-one, sum_of-none}
 

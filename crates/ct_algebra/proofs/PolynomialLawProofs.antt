@@ -8,9 +8,11 @@ use Rattle.ct_algebra.specs.Laws.Terms.{at_below, at_head, not_zero}
 use Rattle.ct_algebra.specs.Sums.{at, none, same_sum, same_terms, at-⊕, at-none, at-negated, at-single}
 use Rattle.ct_algebra.specs.Monomial.{Mono, monomials, mono_cmp, total, less_of_total}
 use Rattle.ct_algebra.specs.WholeNumbers.{int_group}
-use Rattle.ct_algebra.specs.Polynomial.{Polynomial, coefficient, polys, polys_domain, poly_of, plus, times, degree, degree_of, degree_greatest, times_is, terms-poly_of}
+use Rattle.ct_algebra.specs.Polynomial.{Polynomial, coefficient, polys, polys_domain, poly_of, plus, times, degree, degree_of, degree_greatest}
+use Rattle.ct_algebra.specs.Polynomial.{times_is, terms-poly_of}
 use Rattle.ct_algebra.specs.Substitution.{term, term_is, term-*}
-use Rattle.ct_algebra.specs.PolynomialLaws.{PolynomialsAreARing, PolynomialsAreFiniteMaps, PolynomialsAreSumsOfTerms, ProductOfTermsIsATerm, PolynomialsHaveNoZeroDivisors, DegreeIsTheGreatestTotal}
+use Rattle.ct_algebra.specs.PolynomialLaws.{PolynomialsAreARing, PolynomialsAreFiniteMaps, PolynomialsAreSumsOfTerms, ProductOfTermsIsATerm}
+use Rattle.ct_algebra.specs.PolynomialLaws.{PolynomialsHaveNoZeroDivisors, DegreeIsTheGreatestTotal}
 use Rattle.ct_algebra.proofs.MonomialLists.{cmp-other}
 use Rattle.ct_algebra.proofs.TermProducts.{sum_of-append, sum_of-one, sum_of-none}
 

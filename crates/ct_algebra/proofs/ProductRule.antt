@@ -14,7 +14,8 @@ use Rattle.ct_algebra.specs.Group.{none_added}
 use Rattle.ct_algebra.specs.Ring.{Ring}
 use Rattle.ct_algebra.specs.Terms.{Keys}
 use Rattle.ct_algebra.specs.Products.{Monoid}
-use Rattle.ct_algebra.specs.Operators.{Operator, operator_set, operator_group, term_of, sum_of_operators, product_of, symbol_before, multiple, product_of-sum_left, apply}
+use Rattle.ct_algebra.specs.Operators.{Operator, operator_set, operator_group, term_of, sum_of_operators, product_of, symbol_before, multiple}
+use Rattle.ct_algebra.specs.Operators.{product_of-sum_left, apply}
 use Rattle.ct_algebra.proofs.AppliedOperators.{apply-term_of, multiple-one}
 use Rattle.ct_algebra.proofs.OperatorTerms.{sums_are, term_of-single}
 

@@ -7,9 +7,11 @@ use Rattle.ct_algebra.specs.Polynomial.{polys, plus, times}
 use Rattle.ct_algebra.specs.Substitution.{term, number, number_is, name, name_is, shift_ring_hom, shift-name, one_is}
 use Rattle.ct_algebra.specs.Derivative.{derived, derived-term, lower, exp-lower, power_at_is, plus_nat_is, zero_term}
 use Rattle.ct_algebra.specs.Laws.Derivations.{derived-number, none_at}
-use Rattle.ct_algebra.specs.Actions.{Action, Shift, Derive, Still, one_step, sigma_by, delta_by, sigma_by-sum, sigma_by-product, delta_by-sum, delta_by-product}
+use Rattle.ct_algebra.specs.Actions.{Action, Shift, Derive, Still, one_step, sigma_by, delta_by, sigma_by-sum, sigma_by-product, delta_by-sum}
+use Rattle.ct_algebra.specs.Actions.{delta_by-product}
 use Rattle.ct_algebra.specs.FreeOf.{IsWithout}
-use Rattle.ct_algebra.specs.SymbolLaws.{SymbolsRespectTheRing, ShiftReplacesItsName, DerivationIsTheDerivative, StillNameDoesNothing, FreePolynomialsAreConstants}
+use Rattle.ct_algebra.specs.SymbolLaws.{SymbolsRespectTheRing, ShiftReplacesItsName, DerivationIsTheDerivative, StillNameDoesNothing}
+use Rattle.ct_algebra.specs.SymbolLaws.{FreePolynomialsAreConstants}
 use Rattle.ct_algebra.proofs.FreeOfLaws.{sigma-free, delta-free}
 
 -- ---- all actions

@@ -25,7 +25,8 @@ module _ (names : List Naming) (operators is_symbol : Bool) (m : Mono) where
       → Each (PowerFits names operators) (powers_in is_symbol n m)
   powers_fit zero le each = tt
   powers_fit (suc n) le each =
-      Each-append (PowerFits names operators) (powers_in is_symbol n m) (power_at is_symbol n (exp m n)) (powers_fit n (omega arith) each) (by (exp m n) refl)
+      Each-append (PowerFits names operators) (powers_in is_symbol n m) (power_at is_symbol n (exp m n)) (powers_fit n (omega arith) each)
+          (by (exp m n) refl)
     where
       by : (e : ℕ) → exp m n ≡ e → Each (PowerFits names operators) (power_at is_symbol n e)
       by zero is = tt
@@ -52,7 +53,8 @@ named_at names m k named small some =
     omega (arith, here, some))
 
 -- the name of a symbol has an operator
-moves_at : (names : List Naming) (m : Mono) (k : ℕ) → ((i : Name) → actions_of names i ≡ actions.Still → IsWithout i m) → k < 6 → 0 < exp m k → actions_of names (name_with k) ≢ actions.Still
+moves_at : (names : List Naming) (m : Mono) (k : ℕ) → ((i : Name) → actions_of names i ≡ actions.Still → IsWithout i m) → k < 6 → 0 < exp m k →
+    actions_of names (name_with k) ≢ actions.Still
 moves_at names m k acting small some still =
     let same = place-name_with k small in
     let none : exp m (place (name_with k)) ≡ 0 = acting (name_with k) still in
@@ -64,7 +66,8 @@ slice_get-naming_at [] k within = absurd (omega arith)
 slice_get-naming_at (n ∷ ns) zero within = refl
 slice_get-naming_at (n ∷ ns) (suc k) within = slice_get-naming_at ns k (omega arith)
 
-names_fit : (names : List Naming) (operators : Bool) (m : Mono) → total m ≤ largest_degree → ((j : Name) → length names ≤ place j → IsWithout j m) → Each (PowerFits names operators) (names_in m)
+names_fit : (names : List Naming) (operators : Bool) (m : Mono) → total m ≤ largest_degree → ((j : Name) → length names ≤ place j → IsWithout j m) →
+    Each (PowerFits names operators) (names_in m)
 names_fit names operators m low named =
     powers_fit names operators false m 6 (omega arith) (λ k small some. record {
       named = named_at names m k named small some;
@@ -72,7 +75,8 @@ names_fit names operators m low named =
       low = omega (arith, exp-le-total m k small, low);
     })
 
-symbols_fit : (names : List Naming) (m : Mono) → total m ≤ largest_degree → ((i : Name) → actions_of names i ≡ actions.Still → IsWithout i m) → Each (PowerFits names true) (symbols_in m)
+symbols_fit : (names : List Naming) (m : Mono) → total m ≤ largest_degree → ((i : Name) → actions_of names i ≡ actions.Still → IsWithout i m) →
+    Each (PowerFits names true) (symbols_in m)
 symbols_fit names m low acting =
     powers_fit names true true m 6 (omega arith) (λ k small some.
     let moves = moves_at names m k acting small some in
@@ -99,13 +103,16 @@ list_fits names operators (e ∷ es) low named small =
       list_fits names operators es low.1 (λ j past. (named j past).1) (omega (arith, sum, small)),
     )
 
-pub lower : (p : Polynomial) (n : ℕ) → degree p ≤ n → (es : List (Mono × ℤ)) → EachTerm (λ m c. total m ≤ degree p) es → EachTerm (λ m c. total m ≤ n) es
+pub lower : (p : Polynomial) (n : ℕ) → degree p ≤ n → (es : List (Mono × ℤ)) → EachTerm (λ m c. total m ≤ degree p) es →
+    EachTerm (λ m c. total m ≤ n) es
 lower p n le [] each = tt
 lower p n le (e ∷ es) each = let first = each.0 in (omega (arith, first, le), lower p n le es each.1)
 
-polynomial_entries_fit : (names : List Naming) (operators : Bool) (p : Polynomial) → degree p ≤ largest_degree → IsNamed names p → norm p ≤ largest_norm → Each (EntryFits names operators) p.terms
+polynomial_entries_fit : (names : List Naming) (operators : Bool) (p : Polynomial) → degree p ≤ largest_degree → IsNamed names p →
+    norm p ≤ largest_norm → Each (EntryFits names operators) p.terms
 unfolding norm
-polynomial_entries_fit names operators p low named small = list_fits names operators p.terms (lower p largest_degree low p.terms (degree_greatest p)) named small
+polynomial_entries_fit names operators p low named small =
+    list_fits names operators p.terms (lower p largest_degree low p.terms (degree_greatest p)) named small
 
 pub entries_fit : (names : List Naming) (operators : Bool) (p : Polynomial) → PolynomialFits names p → Each (EntryFits names operators) p.terms
 entries_fit names operators p fits = polynomial_entries_fit names operators p fits.low fits.named fits.small

@@ -9,7 +9,8 @@ use Rattle.ct_answer.proofs.PolynomialValues.{IsSmallEntry}
 use Rattle.ct_answer.proofs.OperatorValues.{IsSmallOperatorEntry}
 use Rattle.ct_answer.proofs.FittingTexts.{lower, some_terms}
 
-small_list : (es : List (Mono × ℤ)) → IsCanonical monomials int_group es → EachTerm (λ m c. total m ≤ largest_degree) es → norm_of es ≤ largest_norm → Each IsSmallEntry es
+small_list : (es : List (Mono × ℤ)) → IsCanonical monomials int_group es → EachTerm (λ m c. total m ≤ largest_degree) es → norm_of es ≤ largest_norm →
+    Each IsSmallEntry es
 small_list [] canonical low small = tt
 small_list (e ∷ es) canonical low small =
     let sum = sum_by-cons (λ (d : Mono × ℤ). nat_abs d.1) e es in
@@ -22,9 +23,11 @@ small_entries p low small = small_list p.terms p.canonical (lower p largest_degr
 is_small : (c : Polynomial) → 0 < length c.terms → length c.terms ≤ most_terms → norm c ≤ largest_norm → degree c ≤ largest_degree → IsSmall c
 unfolding count none
 is_small c some few small low =
-    record { some = λ absent. let counted = ap (λ (p : Polynomial). length p.terms) absent in absurd (omega (arith, counted, some)); few = few; small = small; low = low }
+    record { some = λ absent. let counted = ap (λ (p : Polynomial). length p.terms) absent in
+        absurd (omega (arith, counted, some)); few = few; small = small; low = low }
 
-operator_list : (es : List (Mono × Polynomial)) → IsCanonical monomials polys.group es → entries_count es ≤ most_terms → entries_norm es ≤ largest_norm
+operator_list : (es : List (Mono × Polynomial)) → IsCanonical monomials polys.group es → entries_count es ≤ most_terms →
+    entries_norm es ≤ largest_norm
     → greatest (map (λ e. degree e.1) es) ≤ largest_degree → greatest (map (λ e. total e.0) es) ≤ largest_degree → Each IsSmallOperatorEntry es
 unfolding count norm
 operator_list [] canonical few small low low_order = tt

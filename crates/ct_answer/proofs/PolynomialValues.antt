@@ -39,14 +39,17 @@ negative-term m n k =
 
 module _ (a : Name → Action) where
   -- one number with powers of names and symbols
-  module _ (n : Mono) (qs : List Power) (symbols : Each (λ p. p.is_symbol ≡ true) qs) (low : total n ≤ largest_degree) (low_order : total (all_of qs) ≤ largest_degree) where
-    evaluated : (k : ℕ) → suc k ≤ largest_norm → fraction_of a (term_expression (suc k) (names_in n ++ qs)) ≡ Ok (over_one (term_of (all_of qs) (term n (pos (suc k)))))
+  module _ (n : Mono) (qs : List Power) (symbols : Each (λ p. p.is_symbol ≡ true) qs) (low : total n ≤ largest_degree)
+      (low_order : total (all_of qs) ≤ largest_degree) where
+    evaluated : (k : ℕ) → suc k ≤ largest_norm →
+        fraction_of a (term_expression (suc k) (names_in n ++ qs)) ≡ Ok (over_one (term_of (all_of qs) (term n (pos (suc k)))))
     evaluated k small =
         let same = all_of-powers false n in
         term_value a (suc k) (names_in n) qs (omega arith) small (all_are false n 6) symbols (omega (arith, ap total same, low)) low_order
         ∙ ap (λ (m : Mono). Ok (over_one (term_of (all_of qs) (term m (pos (suc k)))))) same
 
-    pub signed_has : (x : ℤ) → T (cond (int_is_zero x) false true) → nat_abs x ≤ largest_norm → TermHas a (signed_expression x (names_in n ++ qs)) (term_of (all_of qs) (term n x)) 1 (nat_abs x)
+    pub signed_has : (x : ℤ) → T (cond (int_is_zero x) false true) → nat_abs x ≤ largest_norm →
+        TermHas a (signed_expression x (names_in n ++ qs)) (term_of (all_of qs) (term n x)) 1 (nat_abs x)
     signed_has (pos zero) some small = absurd some
     signed_has (pos (suc k)) some small =
         let known = small_term n (pos (suc k)) tt small low in
@@ -85,14 +88,16 @@ module _ (a : Name → Action) where
       subst (λ (ps : List Power). TermHas a (signed_expression e.1 ps) (term_of unit (term e.0 e.1)) 1 (nat_abs e.1)) (append-nil (names_in e.0))
       (signed_has e.0 [] tt known.low (omega (arith, total_unit)) e.1 known.some known.small)
 
-  more_terms : (e : Mono × ℤ) (es : List (Mono × ℤ)) → sum_of_operators (term_of unit (term e.0 e.1)) (term_of unit (poly_of es)) ≡ term_of unit (poly_of (e ∷ es))
+  more_terms : (e : Mono × ℤ) (es : List (Mono × ℤ)) →
+      sum_of_operators (term_of unit (term e.0 e.1)) (term_of unit (poly_of es)) ≡ term_of unit (poly_of (e ∷ es))
   unfolding plus
   more_terms e es = sym (ap (term_of unit) (polynomial_laws.sums_of_terms.of_more e es) ∙ term_of-sum unit (term e.0 e.1) (poly_of es))
 
   norm-cons : (e : Mono × ℤ) (es : List (Mono × ℤ)) → nat_abs e.1 + norm_of es ≡ norm_of (e ∷ es)
   norm-cons e es = sym (sum_by-cons (λ (d : Mono × ℤ). nat_abs d.1) e es)
 
-  entries_make : (e : Mono × ℤ) (es : List (Mono × ℤ)) → IsSmallEntry e → Adds a (entry_expressions es) (term_of unit (poly_of es)) (length es) (norm_of es)
+  entries_make : (e : Mono × ℤ) (es : List (Mono × ℤ)) → IsSmallEntry e →
+      Adds a (entry_expressions es) (term_of unit (poly_of es)) (length es) (norm_of es)
       → Makes a (entry_expressions (e ∷ es)) (term_of unit (poly_of (e ∷ es))) (length (e ∷ es)) (norm_of (e ∷ es))
   entries_make e es known later =
       let all = Makes-append a (entry_expression e ∷ []) (entry_expressions es) (term_of unit (term e.0 e.1)) (term_of unit (poly_of es)) 1
@@ -108,18 +113,22 @@ module _ (a : Name → Action) where
   Adds-entries (e ∷ es) known = (entries_make e es known.0 (Adds-entries es known.1)).adds
 
   -- the terms of a polynomial that is not zero
-  pub Makes-polynomial : (c : Polynomial) → 0 < length c.terms → Each IsSmallEntry c.terms → Makes a (entry_expressions c.terms) (term_of unit c) (length c.terms) (norm_of c.terms)
+  pub Makes-polynomial : (c : Polynomial) → 0 < length c.terms → Each IsSmallEntry c.terms →
+      Makes a (entry_expressions c.terms) (term_of unit c) (length c.terms) (norm_of c.terms)
   Makes-polynomial c some known =
-      subst (λ (d : Polynomial). Makes a (entry_expressions c.terms) (term_of unit d) (length c.terms) (norm_of c.terms)) (rebuilt c) (by c.terms some known)
+      subst (λ (d : Polynomial). Makes a (entry_expressions c.terms) (term_of unit d) (length c.terms) (norm_of c.terms)) (rebuilt c)
+          (by c.terms some known)
     where
-      by : (es : List (Mono × ℤ)) → 0 < length es → Each IsSmallEntry es → Makes a (entry_expressions es) (term_of unit (poly_of es)) (length es) (norm_of es)
+      by : (es : List (Mono × ℤ)) → 0 < length es → Each IsSmallEntry es →
+          Makes a (entry_expressions es) (term_of unit (poly_of es)) (length es) (norm_of es)
       by [] some known = absurd (omega (arith, some))
       by (e ∷ es) some known = entries_make e es known.0 (Adds-entries es known.1)
 
   -- a sum that is written for itself
   pub written_value : (c : Polynomial) → 0 < length c.terms → Each IsSmallEntry c.terms → length c.terms ≤ most_terms → norm_of c.terms ≤ largest_norm
       → fraction_of a (sum_expression (entry_expressions c.terms)) ≡ Ok (over_one (term_of unit c))
-  written_value c some known few small = sum_value a (entry_expressions c.terms) (term_of unit c) (length c.terms) (norm_of c.terms) (Makes-polynomial c some known).begins few small
+  written_value c some known few small =
+      sum_value a (entry_expressions c.terms) (term_of unit c) (length c.terms) (norm_of c.terms) (Makes-polynomial c some known).begins few small
 
   -- also of zero
   pub polynomial_written : (c : Polynomial) → Each IsSmallEntry c.terms → length c.terms ≤ most_terms → norm_of c.terms ≤ largest_norm
@@ -129,6 +138,8 @@ module _ (a : Name → Action) where
     where
       sum_value_of : (es : List (Mono × ℤ)) → Each IsSmallEntry es → length es ≤ most_terms → norm_of es ≤ largest_norm →
           fraction_of a (sum_expression (entry_expressions es)) ≡ Ok (over_one (term_of unit (poly_of es)))
-      sum_value_of [] known few small = zero_value a ∙ ap (λ (x : Operator). Ok (over_one x)) (sym (ap (term_of unit) polynomial_laws.sums_of_terms.of_none ∙ term_of-zero unit))
+      sum_value_of [] known few small =
+          zero_value a ∙ ap (λ (x : Operator). Ok (over_one x)) (sym (ap (term_of unit) polynomial_laws.sums_of_terms.of_none ∙ term_of-zero unit))
       sum_value_of (e ∷ es) known few small =
-          sum_value a (entry_expressions (e ∷ es)) (term_of unit (poly_of (e ∷ es))) (length (e ∷ es)) (norm_of (e ∷ es)) (entries_make e es known.0 (Adds-entries es known.1)).begins few small
+          sum_value a (entry_expressions (e ∷ es)) (term_of unit (poly_of (e ∷ es))) (length (e ∷ es)) (norm_of (e ∷ es))
+              (entries_make e es known.0 (Adds-entries es known.1)).begins few small

@@ -31,7 +31,8 @@ raised-one n = ·-unit n
 exp-raised : (n : Mono) (k i : ℕ) → i < 6 → exp (raised n k) i ≡ k * exp n i
 unfolding raised
 exp-raised n zero i small = let none : 0 * exp n i ≡ 0 = omega arith in exp-unit i small ∙ sym none
-exp-raised n (suc k) i small = let more : suc k * exp n i ≡ exp n i + k * exp n i = omega arith in exp-· n (raised n k) i small ∙ ap (λ (x : ℕ). exp n i + x) (exp-raised n k i small) ∙ sym more
+exp-raised n (suc k) i small = let more : suc k * exp n i ≡ exp n i + k * exp n i = omega arith in
+    exp-· n (raised n k) i small ∙ ap (λ (x : ℕ). exp n i + x) (exp-raised n k i small) ∙ sym more
 
 exp-monomial_of : (p : Power) (i : ℕ) → p.name < 6 → i < 6 → exp (monomial_of p) i ≡ cond (eqb i p.name) p.exponent 0
 exp-monomial_of p i named small =
@@ -90,7 +91,8 @@ module _ (is_symbol : Bool) (m : Mono) where
 
   pub all_are : (n : ℕ) → Each (λ p. p.is_symbol ≡ is_symbol) (powers_in is_symbol n m)
   all_are zero = tt
-  all_are (suc n) = Each-append (λ (p : Power). p.is_symbol ≡ is_symbol) (powers_in is_symbol n m) (power_at is_symbol n (exp m n)) (all_are n) (by (exp m n))
+  all_are (suc n) = Each-append (λ (p : Power). p.is_symbol ≡ is_symbol) (powers_in is_symbol n m) (power_at is_symbol n (exp m n)) (all_are n)
+      (by (exp m n))
     where
       by : (e : ℕ) → Each (λ (p : Power). p.is_symbol ≡ is_symbol) (power_at is_symbol n e)
       by zero = tt

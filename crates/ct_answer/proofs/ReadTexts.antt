@@ -32,18 +32,21 @@ Reads-end whole fresh at e = (refl, refl)
 
 pub Reads-blank : (text : List ℕ) (ls : List lexeme.Lexeme) → Reads text ls → Reads (32 ∷ text) ls
 Reads-blank text ls rest whole fresh at e =
-    let step : scanned fresh at 0 (32 ∷ text) ≡ scanned fresh (at + 1) 0 text = scanned-piece fresh at (32 ∷ text) (Gap 1) (blank_ahead fresh text) (omega arith) (omega arith) in
+    let step : scanned fresh at 0 (32 ∷ text) ≡ scanned fresh (at + 1) 0 text =
+            scanned-piece fresh at (32 ∷ text) (Gap 1) (blank_ahead fresh text) (omega arith) (omega arith) in
     let far : drop (at + 1) whole ≡ text = sym (drop-drop 1 at whole) ∙ ap (drop 1) e in
     subst (λ (s : Scanned). (s.bad ≡ None) × (lexemes whole s.tokens ≡ ls)) (sym step) (rest whole fresh (at + 1) far)
 
 -- a token, and what is read behind it
-pub Reads-token : (s : Symbol) (bs text : List ℕ) (ls : List lexeme.Lexeme) → 0 < length bs → ((fresh : Bool) → piece_of fresh (bs ++ text) ≡ Lexeme s (length bs))
+pub Reads-token : (s : Symbol) (bs text : List ℕ) (ls : List lexeme.Lexeme) → 0 < length bs →
+    ((fresh : Bool) → piece_of fresh (bs ++ text) ≡ Lexeme s (length bs))
     → Reads text ls → Reads (bs ++ text) (lexeme_of s bs ∷ ls)
 Reads-token s bs text ls some piece rest whole fresh at e =
     let n = length bs in
     let within : length bs ≤ length (bs ++ text) = omega (arith, length-append bs text) in
     let same : length bs ≤ length bs = omega arith in
-    let back : drop (length bs) (bs ++ text) ≡ text = drop-append-le (length bs) bs text same ∙ ap (λ (xs : List ℕ). xs ++ text) (drop_all (length bs) bs same) in
+    let back : drop (length bs) (bs ++ text) ≡ text = drop-append-le (length bs) bs text same
+            ∙ ap (λ (xs : List ℕ). xs ++ text) (drop_all (length bs) bs same) in
     let front : take (length bs) (bs ++ text) ≡ bs = take-append-le (length bs) bs text same ∙ take_all (length bs) bs same in
     let step : scanned fresh at 0 (bs ++ text)
     ≡ with_piece (Lexeme s (length bs)) at (scanned (is_line_end s) (at + length bs) 0 (drop (length bs) (bs ++ text))) =
@@ -66,7 +69,8 @@ Before false text = Unit {0}
 pub record Writes (begin end : Bool) (text : List ℕ) (T : Texts) : Type 0 where
   pub shown : List lexeme.Lexeme
   pub spells : T shown
-  pub reads : (more : List ℕ) (ls : List lexeme.Lexeme) → Before end more → Reads more ls → Before begin (text ++ more) × Reads (text ++ more) (shown ++ ls)
+  pub reads : (more : List ℕ) (ls : List lexeme.Lexeme) → Before end more → Reads more ls →
+      Before begin (text ++ more) × Reads (text ++ more) (shown ++ ls)
 
 pub Writes-joined : (b m e : Bool) (P Q : List ℕ) (A B : Texts) → Writes b m P A → Writes m e Q B → Writes b e (P ++ Q) (A ▸ B)
 Writes-joined b m e P Q A B p q = record {
@@ -105,7 +109,9 @@ pub Writes-whole : (b e : Bool) (P : List ℕ) (T : Texts) → Writes b true P T
 unfolding scan_of
 Writes-whole b e P T w =
     let read : Reads (P ++ []) (w.shown ++ []) = (w.reads [] [] tt Reads-end).1 in
-    let plain : Reads P w.shown = subst (λ (text : List ℕ). Reads text w.shown) (append-nil P) (subst (λ (ls : List lexeme.Lexeme). Reads (P ++ []) ls) (append-nil w.shown) read) in
+    let plain : Reads P w.shown =
+            subst (λ (text : List ℕ). Reads text w.shown) (append-nil P)
+            (subst (λ (ls : List lexeme.Lexeme). Reads (P ++ []) ls) (append-nil w.shown) read) in
     let all = plain P true 0 refl in
     record { no_bad = all.0; stands = subst T (sym all.1) w.spells }
 
@@ -115,7 +121,8 @@ pub Writes-sign : (s : ℕ) → IsPlainSign s → Writes true false (s ∷ []) (
 Writes-sign s plain = record {
   shown = lexeme.Sign s ∷ [];
   spells = refl;
-  reads = λ more ls ok rest. (plain.no_word, Reads-token (symbol.Sign s) (s ∷ []) more ls (omega arith) (λ fresh. sign_ahead fresh s more plain) rest);
+  reads = λ more ls ok rest.
+      (plain.no_word, Reads-token (symbol.Sign s) (s ∷ []) more ls (omega arith) (λ fresh. sign_ahead fresh s more plain) rest);
 }
 
 pub Writes-blank : Writes true false (32 ∷ []) nothing
@@ -145,7 +152,8 @@ decimal_is (d ∷ ds) n all =
     let e : 10 * n + (d - 48) ≡ n * 10 + digit_value d = omega (arith, digit_value_digit d range) in
     ap (λ (m : ℕ). fold (λ m b. 10 * m + (b - 48)) m ds) e ∙ decimal_is ds (n * 10 + digit_value d) all.1
 
-number_reads : (n : ℕ) (ds more : List ℕ) (ls : List lexeme.Lexeme) → 0 < length ds → AllDigits 10 ds → digits_value_after 10 0 ds ≡ n → Stops is_digit more
+number_reads : (n : ℕ) (ds more : List ℕ) (ls : List lexeme.Lexeme) → 0 < length ds → AllDigits 10 ds → digits_value_after 10 0 ds ≡ n →
+    Stops is_digit more
     → Reads more ls → Reads (ds ++ more) (lexeme.Number n ∷ ls)
 number_reads n [] more ls some all value stops rest = absurd (omega (arith, some))
 number_reads n (d ∷ ds) more ls some all value stops rest =

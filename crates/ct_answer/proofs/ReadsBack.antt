@@ -13,7 +13,8 @@ use Rattle.ct_answer.proofs.FittingValues.{small_entries, small_operator_entries
 coefficient_of_one : (p : Polynomial) → polynomial_at (term_of unit p) unit ≡ p
 coefficient_of_one p = at-term_of unit unit p ∙ pick-same unit unit p refl
 
-polynomial_value : (a : Name → Action) (names : List Naming) (p : Polynomial) → PolynomialFits names p → checked_polynomial a (polynomial_expression p) ≡ Ok p
+polynomial_value : (a : Name → Action) (names : List Naming) (p : Polynomial) → PolynomialFits names p →
+    checked_polynomial a (polynomial_expression p) ≡ Ok p
 unfolding count norm value_of
 polynomial_value a names p fits =
     ap (λ (c : Checked Value). (c >>= (λ v. let r : Checked Operator = Ok v.operator in r)) >>= (λ x. Ok (polynomial_at x unit)))
@@ -24,7 +25,8 @@ pub polynomials_are_read : PrintedPolynomialsAreRead
 polynomials_are_read names p known fits = record {
   expression = polynomial_expression p;
   spelled = polynomial_is_spelled names p known fits;
-  only = λ x spelled. one_expression names false (polynomial_text names p) x (polynomial_expression p) spelled (polynomial_is_spelled names p known fits);
+  only = λ x spelled. one_expression names false (polynomial_text names p) x (polynomial_expression p) spelled
+      (polynomial_is_spelled names p known fits);
   evaluable = is_polynomial names (polynomial_text names p) (polynomial_expression p) known (polynomial_is_spelled names p known fits);
   value = polynomial_value (actions_of names) names p fits;
 }

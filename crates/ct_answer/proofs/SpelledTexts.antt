@@ -8,13 +8,16 @@ use Rattle.ct_answer.proofs.SpelledSums.{Writes-polynomial}
 use Rattle.ct_answer.proofs.SpelledOperators.{Writes-operator}
 use Rattle.ct_answer.proofs.FittingTexts.{entries_fit, operator_entries_fit}
 
-pub polynomial_is_spelled : (names : List Naming) (p : Polynomial) → IsAlgebra names → PolynomialFits names p → IsSpelled names false (polynomial_expression p) (polynomial_text names p)
+pub polynomial_is_spelled : (names : List Naming) (p : Polynomial) → IsAlgebra names → PolynomialFits names p →
+    IsSpelled names false (polynomial_expression p) (polynomial_text names p)
 polynomial_is_spelled names p known fits =
     let all = Writes-whole false true (polynomial_text names p) (IsExpression (declared names) false (polynomial_expression p))
     (Writes-polynomial names known false (IsNested (declared names) false 64) p (entries_fit names false p fits)) in
     record { whole = all.no_bad; stands = all.stands }
 
-pub operator_is_spelled : (names : List Naming) (p : Operator) → IsAlgebra names → OperatorFits names p → IsSpelled names true (operator_expression p) (operator_text names p)
+pub operator_is_spelled : (names : List Naming) (p : Operator) → IsAlgebra names → OperatorFits names p →
+    IsSpelled names true (operator_expression p) (operator_text names p)
 operator_is_spelled names p known fits =
-    let all = Writes-whole false true (operator_text names p) (IsExpression (declared names) true (operator_expression p)) (Writes-operator names known 63 p (operator_entries_fit names p fits)) in
+    let all = Writes-whole false true (operator_text names p) (IsExpression (declared names) true (operator_expression p))
+            (Writes-operator names known 63 p (operator_entries_fit names p fits)) in
     record { whole = all.no_bad; stands = all.stands }

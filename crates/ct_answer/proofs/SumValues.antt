@@ -32,11 +32,13 @@ unfolding term_norm
 term_norm-none = rw terms-no_operator refl
 
 -- a sum with room
-sum_fits : (p q : Operator) → term_count p + term_count q ≤ most_terms → term_norm p + term_norm q ≤ largest_norm → checked_sum p q ≡ Ok (sum_of_operators p q)
+sum_fits : (p q : Operator) → term_count p + term_count q ≤ most_terms → term_norm p + term_norm q ≤ largest_norm →
+    checked_sum p q ≡ Ok (sum_of_operators p q)
 unfolding checked_sum verdict
 sum_fits p q few small = ap (λ (o : Option Kind). verdict o (sum_of_operators p q)) (sum_allowed p q few small)
 
-difference_fits : (p q : Operator) → term_count p + term_count q ≤ most_terms → term_norm p + term_norm q ≤ largest_norm → checked_difference p q ≡ Ok (sum_of_operators p (negative q))
+difference_fits : (p q : Operator) → term_count p + term_count q ≤ most_terms → term_norm p + term_norm q ≤ largest_norm →
+    checked_difference p q ≡ Ok (sum_of_operators p (negative q))
 unfolding checked_difference difference_of_operators verdict
 difference_fits p q few small = ap (λ (o : Option Kind). verdict o (sum_of_operators p (negative q))) (sum_allowed p q few small)
 
@@ -66,7 +68,8 @@ module _ (a : Name → Action) where
     pub small : term_norm (sum_of_operators so_far w) ≤ term_norm so_far + s
 
   abbrev pub Adds : List Term → Operator → ℕ → ℕ → Type 0
-  Adds ts w k s = (so_far : Operator) (rest : List Signed) → term_count so_far + k ≤ most_terms → term_norm so_far + s ≤ largest_norm → AddsTo ts w k s so_far rest
+  Adds ts w k s = (so_far : Operator) (rest : List Signed) → term_count so_far + k ≤ most_terms → term_norm so_far + s ≤ largest_norm →
+      AddsTo ts w k s so_far rest
 
   pub record BeginsWith (ts : List Term) (w : Operator) (k s : ℕ) (rest : List Signed) : Type 0 where
     pub goes_on : sum_from a None (pairs ts ++ rest) ≡ sum_from a (Some (over_one w)) rest
@@ -82,14 +85,18 @@ module _ (a : Name → Action) where
 
   -- ---- one term
 
-  joined_value : (so_far : Operator) (negative : Bool) (x w : Operator) → with_sign negative x ≡ w → term_count so_far + term_count x ≤ most_terms → term_norm so_far + term_norm x ≤ largest_norm
+  joined_value : (so_far : Operator) (negative : Bool) (x w : Operator) → with_sign negative x ≡ w → term_count so_far + term_count x ≤ most_terms →
+      term_norm so_far + term_norm x ≤ largest_norm
       → joined a (Some (over_one so_far)) negative (over_one x) ≡ Ok (over_one (sum_of_operators so_far w))
   joined_value so_far true x w sign few small =
-      minus_over_one a so_far x _ (omega (arith, small)) (omega (arith, small)) (difference_fits so_far x few small) ∙ ap (λ (y : Operator). Ok (over_one (sum_of_operators so_far y))) sign
+      minus_over_one a so_far x _ (omega (arith, small)) (omega (arith, small)) (difference_fits so_far x few small)
+          ∙ ap (λ (y : Operator). Ok (over_one (sum_of_operators so_far y))) sign
   joined_value so_far false x w sign few small =
-      plus_over_one a so_far x _ (omega (arith, small)) (omega (arith, small)) (sum_fits so_far x few small) ∙ ap (λ (y : Operator). Ok (over_one (sum_of_operators so_far y))) sign
+      plus_over_one a so_far x _ (omega (arith, small)) (omega (arith, small)) (sum_fits so_far x few small)
+          ∙ ap (λ (y : Operator). Ok (over_one (sum_of_operators so_far y))) sign
 
-  first_value : (negative : Bool) (x w : Operator) → with_sign negative x ≡ w → term_count x ≤ most_terms → term_norm x ≤ largest_norm → joined a None negative (over_one x) ≡ Ok (over_one w)
+  first_value : (negative : Bool) (x w : Operator) → with_sign negative x ≡ w → term_count x ≤ most_terms → term_norm x ≤ largest_norm →
+      joined a None negative (over_one x) ≡ Ok (over_one w)
   first_value true x w sign few small =
       negated_over_one x _ (difference_fits no_operator x (omega (arith, term_count-none, few)) (omega (arith, term_norm-none, small)))
       ∙ ap (λ (y : Operator). Ok (over_one y)) (none_sum (negative x) ∙ sign)
@@ -111,7 +118,8 @@ module _ (a : Name → Action) where
   Begins-one t w k s known rest few small = record {
     goes_on =
         ap (λ (c : Checked Value). c >>= (λ x. joined a None t.0 x >>= (λ more. sum_from a (Some more) rest))) known.evaluates
-        ∙ ap (λ (c : Checked Value). c >>= (λ more. sum_from a (Some more) rest)) (first_value t.0 known.value w known.sign (omega (arith, few, known.few)) (omega (arith, small, known.small)));
+        ∙ ap (λ (c : Checked Value). c >>= (λ more. sum_from a (Some more) rest))
+            (first_value t.0 known.value w known.sign (omega (arith, few, known.few)) (omega (arith, small, known.small)));
     few = known.few_signed;
     small = known.small_signed;
   }
@@ -134,18 +142,21 @@ module _ (a : Name → Action) where
   pairs-append [] us rest = refl
   pairs-append (t ∷ ts) us rest = ap (λ (ps : List Signed). (t.0, fraction_of a t.1) ∷ ps) (pairs-append ts us rest)
 
-  pub Adds-append : (ts us : List Term) (w v : Operator) (k s l r : ℕ) → Adds ts w k s → Adds us v l r → Adds (ts ++ us) (sum_of_operators w v) (k + l) (s + r)
+  pub Adds-append : (ts us : List Term) (w v : Operator) (k s l r : ℕ) → Adds ts w k s → Adds us v l r →
+      Adds (ts ++ us) (sum_of_operators w v) (k + l) (s + r)
   Adds-append ts us w v k s l r first second so_far rest few small =
       let one = first so_far (pairs us ++ rest) (omega (arith, few)) (omega (arith, small)) in
       let two = second (sum_of_operators so_far w) rest (omega (arith, few, one.few)) (omega (arith, small, one.small)) in
       let same = group.sum_is_associative so_far w v in
       record {
-        goes_on = ap (sum_from a (Some (over_one so_far))) (pairs-append ts us rest) ∙ one.goes_on ∙ two.goes_on ∙ ap (λ (x : Operator). sum_from a (Some (over_one x)) rest) same;
+        goes_on = ap (sum_from a (Some (over_one so_far))) (pairs-append ts us rest) ∙ one.goes_on ∙ two.goes_on
+            ∙ ap (λ (x : Operator). sum_from a (Some (over_one x)) rest) same;
         few = omega (arith, one.few, two.few, ap term_count same);
         small = omega (arith, one.small, two.small, ap term_norm same);
       }
 
-  Begins-append : (ts us : List Term) (w v : Operator) (k s l r : ℕ) → Begins ts w k s → Adds us v l r → Begins (ts ++ us) (sum_of_operators w v) (k + l) (s + r)
+  Begins-append : (ts us : List Term) (w v : Operator) (k s l r : ℕ) → Begins ts w k s → Adds us v l r →
+      Begins (ts ++ us) (sum_of_operators w v) (k + l) (s + r)
   Begins-append ts us w v k s l r first second rest few small =
       let one = first (pairs us ++ rest) (omega (arith, few)) (omega (arith, small)) in
       let two = second w rest (omega (arith, few, one.few)) (omega (arith, small, one.small)) in
@@ -155,7 +166,8 @@ module _ (a : Name → Action) where
         small = omega (arith, one.small, two.small);
       }
 
-  pub Makes-append : (ts us : List Term) (w v : Operator) (k s l r : ℕ) → Makes ts w k s → Adds us v l r → Makes (ts ++ us) (sum_of_operators w v) (k + l) (s + r)
+  pub Makes-append : (ts us : List Term) (w v : Operator) (k s l r : ℕ) → Makes ts w k s → Adds us v l r →
+      Makes (ts ++ us) (sum_of_operators w v) (k + l) (s + r)
   Makes-append ts us w v k s l r first second = record {
     begins = Begins-append ts us w v k s l r first.begins second;
     adds = Adds-append ts us w v k s l r first.adds second;
@@ -180,7 +192,8 @@ module _ (a : Name → Action) where
           ≡ sum_from a None ((negative, fraction_of a t.1) ∷ pairs more)
       whole negative more = fraction_of-Sum a _ ∙ ap (sum_from a None) (signed-summands ((negative, t.1) ∷ more))
 
-      by : (negative : Bool) (more : List Term) → fraction_of a (grammar.sum_of negative t.1 more) ≡ sum_from a None ((negative, fraction_of a t.1) ∷ pairs more)
+      by : (negative : Bool) (more : List Term) →
+          fraction_of a (grammar.sum_of negative t.1 more) ≡ sum_from a None ((negative, fraction_of a t.1) ∷ pairs more)
       by true more = whole true more
       by false [] = alone (fraction_of a t.1)
       by false (u ∷ more) = whole false (u ∷ more)
@@ -188,10 +201,13 @@ module _ (a : Name → Action) where
   pub zero_value : fraction_of a (e.Whole (pos 0)) ≡ Ok (over_one no_operator)
   zero_value =
       fraction_of-Whole a (pos 0)
-      ∙ ap (λ (c : Polynomial). Ok (over_one (term_of unit c))) (number_is (pos 0) ∙ hom_zero {G = int_group} {H = polys.group} (record { sums = term-sum unit }))
+      ∙ ap (λ (c : Polynomial). Ok (over_one (term_of unit c)))
+          (number_is (pos 0) ∙ hom_zero {G = int_group} {H = polys.group} (record { sums = term-sum unit }))
       ∙ ap (λ (x : Operator). Ok (over_one x)) (term_of-zero unit)
 
-  pub sum_value : (ts : List Term) (w : Operator) (k s : ℕ) → Begins ts w k s → k ≤ most_terms → s ≤ largest_norm → fraction_of a (sum_expression ts) ≡ Ok (over_one w)
+  pub sum_value : (ts : List Term) (w : Operator) (k s : ℕ) → Begins ts w k s → k ≤ most_terms → s ≤ largest_norm →
+      fraction_of a (sum_expression ts) ≡ Ok (over_one w)
   unfolding sum_from
   sum_value [] w k s begins few small = zero_value ∙ (begins [] few small).goes_on
-  sum_value (t ∷ ts) w k s begins few small = value-sum_of t ts ∙ ap (sum_from a None) (sym (append-nil (pairs (t ∷ ts)))) ∙ (begins [] few small).goes_on
+  sum_value (t ∷ ts) w k s begins few small = value-sum_of t ts ∙ ap (sum_from a None) (sym (append-nil (pairs (t ∷ ts))))
+      ∙ (begins [] few small).goes_on

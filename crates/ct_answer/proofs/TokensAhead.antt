@@ -79,7 +79,8 @@ module _ (test : ℕ → Bool) where
       let one : 1 + length bs ≡ suc (length bs) = omega arith in
       rw (parts.0) (ap (λ (n : ℕ). 1 + n) (prefix_len-all bs rest parts.1 stops) ∙ one)
 
-  all_ahead : (b : ℕ) (bs rest : List ℕ) → test b ≡ true → IsTrue (list_all test bs) → Stops test rest → length (take_while test (b ∷ (bs ++ rest))) ≡ suc (length bs)
+  all_ahead : (b : ℕ) (bs rest : List ℕ) → test b ≡ true → IsTrue (list_all test bs) → Stops test rest →
+      length (take_while test (b ∷ (bs ++ rest))) ≡ suc (length bs)
   all_ahead b bs rest first all stops = front_length test b (bs ++ rest) first ∙ ap suc (prefix_len-all bs rest all stops)
 
 pub word_ahead : (fresh : Bool) (b : ℕ) (bs rest : List ℕ) → is_letter b ≡ true → IsTrue (list_all is_word_byte bs) → Stops is_word_byte rest

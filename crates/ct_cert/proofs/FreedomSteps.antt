@@ -23,7 +23,8 @@ lacks_each : (j : Name) (es : List (Mono × ℤ)) → Decides (each_passes (λ (
 lacks_each j [] = (λ _. tt, λ _. refl)
 lacks_each j (e ∷ es) =
     let rest = lacks_each j es in
-    (λ pass. (eqb-true (exp e.0 (place j)) 0 (first_pass _ _ pass), rest.0 (second_pass _ _ pass)), λ free. both_pass _ _ (eq-eqb (exp e.0 (place j)) 0 free.0) (rest.1 free.1))
+    (λ pass. (eqb-true (exp e.0 (place j)) 0 (first_pass _ _ pass), rest.0 (second_pass _ _ pass)),
+        λ free. both_pass _ _ (eq-eqb (exp e.0 (place j)) 0 free.0) (rest.1 free.1))
 
 pub polynomial_lacks_decides : (j : Name) (p : Polynomial) → Decides (polynomial_lacks j p) (IsFreeOf j p)
 polynomial_lacks_decides j p = lacks_each j p.terms
@@ -51,7 +52,8 @@ module _ (m : Mono) (c : Polynomial) (p : Part) (ps rest : List Part) (whole : r
       {asked : Bool} (r : Bool) → (r ≡ false) ↔ IsFreeOf (name_with p.name) c → r ≡ true → term_lacks (names_of rest) m c ≡ asked → false ≡ asked
   unfolding named
   coefficient_found r told found =
-      not_named (λ pass. let free = told.1 ((polynomial_lacks_decides (name_with p.name) c).0 (second_pass _ _ pass)) in true_false (sym found ∙ free))
+      not_named (λ pass. let free = told.1 ((polynomial_lacks_decides (name_with p.name) c).0 (second_pass _ _ pass)) in
+          true_false (sym found ∙ free))
     where
       true_false : true ≡ false → ⊥
       true_false never = cc

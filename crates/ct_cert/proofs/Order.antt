@@ -84,7 +84,8 @@ pub denominator_made :
     (p : Part) (r : Bool) → IsSmall p → IsTrue r ↔ (p.denominator ≡ polys.zero) →
     test_of (places.Denominator p.name) (Ok (not r)) ≡ denominator_test (summand_of p)
 denominator_made p r small told =
-    ap₂ (λ k b. test_of (places.Denominator k) (Ok (not b))) (sym (place-name_with p.name small)) (decided r _ told (polynomial_zero_decides p.denominator))
+    ap₂ (λ k b. test_of (places.Denominator k) (Ok (not b))) (sym (place-name_with p.name small))
+        (decided r _ told (polynomial_zero_decides p.denominator))
 
 pub part_made :
     (a : Name → Action) (h : Polynomial) (p : Part) → IsSmall p →

@@ -10,7 +10,8 @@ module _ (a : Name → Action) {asked : Checked Operator} (sum more : Operator) 
       (p : Part) (ps rest : List Part) → rest ≡ p ∷ ps → with_difference a sum (summand_of p) ≡ Ok more →
       checked_differences a sum (map summand_of rest) ≡ asked → checked_differences a more (map summand_of ps) ≡ asked
   next_difference p ps rest whole value left =
-      sym (ap (λ rest. checked_differences a sum (map summand_of rest)) whole ∙ ap (λ r. r >>= (λ more. checked_differences a more (map summand_of ps))) value)
+      sym (ap (λ rest. checked_differences a sum (map summand_of rest)) whole
+          ∙ ap (λ r. r >>= (λ more. checked_differences a more (map summand_of ps))) value)
       ∙ left
 
 module _ (test : Summand → Tested (Unit {0})) {asked : Tested (Unit {0})} (p : Part) (ps rest : List Part) where

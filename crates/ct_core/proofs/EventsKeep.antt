@@ -2,7 +2,8 @@
 -- Main lemma: `keeps`, at the end, which `RunsKeep` cites, and so does each step of the pool on its two words.
 -- Only the view at one place changes (`changes`); what the event leaves of it is said for each kind of event
 -- (`claim_fits`, `look_fits`, `refuse_fits`, `hit_fits`, `stop_fits`), and a hit is counted once more (`hit_counts`).
-use Rattle.std.proofs.Common.{◌≡◌, ◌⊎◌, ⊎_elim, ℕ, ◌+◌, ◌<◌, ◌≤◌, List, [], ◌∷◌, ◌++◌, set, Some, None, Option, Bool, true, false, ◌&&◌, ◌||◌, refl, sym, ap, ◌∙◌, subst, arith, add-one, min, append-nil}
+use Rattle.std.proofs.Common.{◌≡◌, ◌⊎◌, ⊎_elim, ℕ, ◌+◌, ◌<◌, ◌≤◌, List, [], ◌∷◌, ◌++◌, set, Some, None, Option, Bool, true, false, ◌&&◌, ◌||◌, refl}
+use Rattle.std.proofs.Common.{sym, ap, ◌∙◌, subst, arith, add-one, min, append-nil}
 use Rattle.std.specs.Prelude.{slice_get, ◌==◌, nat_lt, nat_le, IfSome, is_some}
 use Rattle.std.proofs.lemmas.Bool.{and_parts, not-true}
 use Rattle.std.proofs.lemmas.Bool.Decides.{nat_tests}
@@ -56,7 +57,8 @@ ends_is v i e =
     }
 
 -- one view changes
-pub changes : (count next next' : ℕ) (least least' : Option ℕ) (views : List Sight) (w : ℕ) (v u : Sight) → slice_get views w ≡ Some v → Kept count next least views
+pub changes : (count next next' : ℕ) (least least' : Option ℕ) (views : List Sight) (w : ℕ) (v u : Sight) → slice_get views w ≡ Some v →
+    Kept count next least views
     → ((h : ℕ → ℕ) → sum_over h u.claims + sum_below h next ≡ sum_over h v.claims + sum_below h next')
     → ((x : Sight) → Fits count least x → Fits count least' x) → Fits count least' u
     → IfSome least' (λ m. 1 ≤ sum_over (has_hit m) (set views w u))
@@ -68,20 +70,25 @@ changes count next next' least least' views w v u at k claims others mine hits =
 }
 
 -- the hits stay as they are
-same_hits : (least : Option ℕ) (views : List Sight) (w : ℕ) (v u : Sight) → slice_get views w ≡ Some v → v.hit ≡ u.hit → IfSome least (λ m. 1 ≤ sum_over (has_hit m) views) → IfSome least (λ m. 1 ≤ sum_over (has_hit m) (set views w u))
+same_hits : (least : Option ℕ) (views : List Sight) (w : ℕ) (v u : Sight) → slice_get views w ≡ Some v → v.hit ≡ u.hit →
+    IfSome least (λ m. 1 ≤ sum_over (has_hit m) views) → IfSome least (λ m. 1 ≤ sum_over (has_hit m) (set views w u))
 same_hits least views w v u at e h =
-    if_some _ _ least (λ m k. let s = sum_over-set (has_hit m) views w v u at in let t : has_hit m v ≡ has_hit m u = ap (λ o. one_if (some_and o (λ x. x == m))) e in omega arith) h
+    if_some _ _ least (λ m k. let s = sum_over-set (has_hit m) views w v u at in
+        let t : has_hit m v ≡ has_hit m u = ap (λ o. one_if (some_and o (λ x. x == m))) e in omega arith) h
 
-no_hit : (Q : ℕ → Type 0) (count : ℕ) (least : Option ℕ) (v : Sight) → v.stopped ≡ false → (o : Option ℕ) → IfSome o (λ h. (v.pending ≡ Some h) × (h < count) × Reaches least h × (v.stopped ≡ true)) → IfSome o Q
+no_hit : (Q : ℕ → Type 0) (count : ℕ) (least : Option ℕ) (v : Sight) → v.stopped ≡ false → (o : Option ℕ) →
+    IfSome o (λ h. (v.pending ≡ Some h) × (h < count) × Reaches least h × (v.stopped ≡ true)) → IfSome o Q
 no_hit Q count least v on None h = tt
 no_hit Q count least v on (Some x) h = let s = h.3 in absurd (cc)
 
-hit_none : (count : ℕ) (least : Option ℕ) (v : Sight) → v.stopped ≡ false → (o : Option ℕ) → IfSome o (λ h. (v.pending ≡ Some h) × (h < count) × Reaches least h × (v.stopped ≡ true)) → o ≡ None
+hit_none : (count : ℕ) (least : Option ℕ) (v : Sight) → v.stopped ≡ false → (o : Option ℕ) →
+    IfSome o (λ h. (v.pending ≡ Some h) × (h < count) × Reaches least h × (v.stopped ≡ true)) → o ≡ None
 hit_none count least v on None h = refl
 hit_none count least v on (Some x) h = let s = h.3 in absurd (cc)
 
 -- what each event leaves of the worker that makes it
-claim_fits : (count next : ℕ) (least : Option ℕ) (v : Sight) (w : ℕ) → v.stopped ≡ false → v.pending ≡ None → Fits count least v → Fits count least (view_after next least v (Claim w))
+claim_fits : (count next : ℕ) (least : Option ℕ) (v : Sight) (w : ℕ) → v.stopped ≡ false → v.pending ≡ None → Fits count least v →
+    Fits count least (view_after next least v (Claim w))
 claim_fits count next least v w on none f = record {
   claims_are = ap (λ l. l ++ next ∷ []) (f.claims_are ∙ ap (λ o. v.refuted ++ list_of o) none ∙ append-nil v.refuted);
   refuted_below = f.refuted_below;
@@ -108,7 +115,8 @@ itself : (o : Option ℕ) → IfSome o (λ s. Reaches o s)
 itself None = tt
 itself (Some m) = omega arith
 
-look_fits : (count next : ℕ) (least : Option ℕ) (v : Sight) (w p : ℕ) → v.looked ≡ false → v.pending ≡ Some p → p < count → Fits count least v → Fits count least (view_after next least v (Look w))
+look_fits : (count next : ℕ) (least : Option ℕ) (v : Sight) (w p : ℕ) → v.looked ≡ false → v.pending ≡ Some p → p < count → Fits count least v →
+    Fits count least (view_after next least v (Look w))
 look_fits count next least v w p off pends below f = record {
   claims_are = f.claims_are;
   refuted_below = f.refuted_below;
@@ -121,7 +129,8 @@ look_fits count next least v w p off pends below f = record {
 ends_below : (count : ℕ) (least : Option ℕ) (v : Sight) (i : ℕ) → Ends v i → Fits count least v → i < count
 ends_below count least v i d f = let P : Option ℕ → Type 0 = λ o. IfSome o (λ x. x < count) in subst P d.pends (f.looked_below d.looks)
 
-refuse_fits : (count next : ℕ) (least : Option ℕ) (v : Sight) (w i : ℕ) → Ends v i → Fits count least v → Fits count least (view_after next least v (Refuse w i))
+refuse_fits : (count next : ℕ) (least : Option ℕ) (v : Sight) (w i : ℕ) → Ends v i → Fits count least v →
+    Fits count least (view_after next least v (Refuse w i))
 refuse_fits count next least v w i d f = record {
   claims_are = (f.claims_are ∙ ap (λ o. v.refuted ++ list_of o) d.pends) ∙ sym (append-nil (v.refuted ++ i ∷ []));
   refuted_below = each_append (λ x. x < count) v.refuted (i ∷ []) f.refuted_below (ends_below count least v i d f, tt);
@@ -131,7 +140,8 @@ refuse_fits count next least v w i d f = record {
   stopped_is = λ (e : v.stopped ≡ true). let off = d.on in absurd (cc);
 }
 
-hit_fits : (count next : ℕ) (least : Option ℕ) (v : Sight) (w i : ℕ) → Ends v i → Fits count least v → Fits count (least_with least i) (view_after next least v (Hit w i))
+hit_fits : (count next : ℕ) (least : Option ℕ) (v : Sight) (w i : ℕ) → Ends v i → Fits count least v →
+    Fits count (least_with least i) (view_after next least v (Hit w i))
 hit_fits count next least v w i d f = record {
   claims_are = f.claims_are;
   refuted_below = f.refuted_below;
@@ -141,12 +151,14 @@ hit_fits count next least v w i d f = record {
   stopped_is = λ _. refl;
 }
 
-stop_fits : (count next : ℕ) (least : Option ℕ) (v : Sight) (w : ℕ) → may_stop count v ≡ true → Fits count least v → Fits count least (view_after next least v (Stop w))
+stop_fits : (count next : ℕ) (least : Option ℕ) (v : Sight) (w : ℕ) → may_stop count v ≡ true → Fits count least v →
+    Fits count least (view_after next least v (Stop w))
 stop_fits count next least v w may f = record {
   claims_are = f.claims_are;
   refuted_below = f.refuted_below;
   looked_below = f.looked_below;
-  hit_is = if_some (λ h. (v.pending ≡ Some h) × (h < count) × Reaches least h × (v.stopped ≡ true)) (λ h. (v.pending ≡ Some h) × (h < count) × Reaches least h × (true ≡ true)) v.hit (λ x h. (h.0, h.1, h.2, refl)) f.hit_is;
+  hit_is = if_some (λ h. (v.pending ≡ Some h) × (h < count) × Reaches least h × (v.stopped ≡ true))
+      (λ h. (v.pending ≡ Some h) × (h < count) × Reaches least h × (true ≡ true)) v.hit (λ x h. (h.0, h.1, h.2, refl)) f.hit_is;
   seen_is = f.seen_is;
   stopped_is = λ _. or_right (is_some v.hit) _ may;
 }
@@ -156,7 +168,9 @@ lower_fits count i least v f = record {
   claims_are = f.claims_are;
   refuted_below = f.refuted_below;
   looked_below = f.looked_below;
-  hit_is = if_some (λ h. (v.pending ≡ Some h) × (h < count) × Reaches least h × (v.stopped ≡ true)) (λ h. (v.pending ≡ Some h) × (h < count) × Reaches (least_with least i) h × (v.stopped ≡ true)) v.hit (λ x h. (h.0, h.1, lower least i x h.2, h.3)) f.hit_is;
+  hit_is = if_some (λ h. (v.pending ≡ Some h) × (h < count) × Reaches least h × (v.stopped ≡ true))
+      (λ h. (v.pending ≡ Some h) × (h < count) × Reaches (least_with least i) h × (v.stopped ≡ true)) v.hit
+      (λ x h. (h.0, h.1, lower least i x h.2, h.3)) f.hit_is;
   seen_is = if_some (Reaches least) (Reaches (least_with least i)) v.seen (lower least i) f.seen_is;
   stopped_is = f.stopped_is;
 }
@@ -186,7 +200,8 @@ hit_counts (Some m) i views w v u at none is h =
     which m i = grind arith
 
 module _ (count next : ℕ) (least : Option ℕ) (views : List Sight) (at_w : ℕ) (v : Sight) where
-  pub keeps : (e : Event) → slice_get views at_w ≡ Some v → is_legal count v e ≡ true → Kept count next least views → Kept count (next_after next e) (least_after least e) (set views at_w (view_after next least v e))
+  pub keeps : (e : Event) → slice_get views at_w ≡ Some v → is_legal count v e ≡ true → Kept count next least views →
+      Kept count (next_after next e) (least_after least e) (set views at_w (view_after next least v e))
   keeps (Claim w) at legal k =
       let a = and_parts _ _ legal in
       let f = each_at (Fits count least) views at_w v at k.fits in

@@ -57,7 +57,8 @@ pub sum_below-times : (x n : ℕ) → sum_below (λ y. one_if (y == x)) n ≡ on
 sum_below-times x zero = grind (arith, nat_tests)
 sum_below-times x (suc n) = counted x n (sum_below-times x n)
   where
-    counted : (x n : ℕ) → sum_below (λ y. one_if (y == x)) n ≡ once_below x n → sum_below (λ y. one_if (y == x)) n + one_if (n == x) ≡ once_below x (suc n)
+    counted : (x n : ℕ) → sum_below (λ y. one_if (y == x)) n ≡ once_below x n →
+        sum_below (λ y. one_if (y == x)) n + one_if (n == x) ≡ once_below x (suc n)
     counted x n h = rw h (grind (arith, nat_tests))
 
 -- a number that no element is

@@ -18,15 +18,18 @@ unfolding negated
 negated_over_one x r e = rw e refl
 
 module _ (a : Name → Action) (x y r : Operator) where
-  cleared_over_one : term_norm x ≤ largest_norm → term_norm y ≤ largest_norm → cleared a (over_one x) (over_one y) ≡ Ok (record { whole = 1; mine = x; its = y })
+  cleared_over_one : term_norm x ≤ largest_norm → term_norm y ≤ largest_norm →
+      cleared a (over_one x) (over_one y) ≡ Ok (record { whole = 1; mine = x; its = y })
   unfolding cleared
   cleared_over_one small small_too = rw (common_one, once a x small, once a y small_too) refl
 
-  pub plus_over_one : term_norm x ≤ largest_norm → term_norm y ≤ largest_norm → checked_sum x y ≡ Ok r → checked_plus a (over_one x) (over_one y) ≡ Ok (over_one r)
+  pub plus_over_one : term_norm x ≤ largest_norm → term_norm y ≤ largest_norm → checked_sum x y ≡ Ok r →
+      checked_plus a (over_one x) (over_one y) ≡ Ok (over_one r)
   unfolding checked_plus
   plus_over_one small small_too e = rw (cleared_over_one small small_too, e, lowest_one r) refl
 
-  pub minus_over_one : term_norm x ≤ largest_norm → term_norm y ≤ largest_norm → checked_difference x y ≡ Ok r → checked_minus a (over_one x) (over_one y) ≡ Ok (over_one r)
+  pub minus_over_one : term_norm x ≤ largest_norm → term_norm y ≤ largest_norm → checked_difference x y ≡ Ok r →
+      checked_minus a (over_one x) (over_one y) ≡ Ok (over_one r)
   unfolding checked_minus
   minus_over_one small small_too e = rw (cleared_over_one small small_too, e, lowest_one r) refl
 

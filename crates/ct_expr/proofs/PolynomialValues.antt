@@ -23,7 +23,8 @@ IsPlain v = (p : Polynomial) × (v ≡ term_of unit p)
 
 plain_is : (v : Operator) → IsPlain v → v ≡ operator_of_polynomial (polynomial_at v unit)
 plain_is v plain =
-    let coefficient : polynomial_at v unit ≡ plain.0 = ap (λ (w : Operator). polynomial_at w unit) plain.1 ∙ at-term_of unit unit plain.0 ∙ pick-same unit unit plain.0 refl in
+    let coefficient : polynomial_at v unit ≡ plain.0 = ap (λ (w : Operator). polynomial_at w unit) plain.1 ∙ at-term_of unit unit plain.0
+            ∙ pick-same unit unit plain.0 refl in
     plain.1 ∙ ap (term_of unit) (sym coefficient)
 
 plain_zero : IsPlain no_operator
@@ -36,7 +37,8 @@ plain_negative : (v : Operator) → IsPlain v → IsPlain (negative v)
 plain_negative v p = (polys.group.neg p.0, negatives_are v ∙ ap operator_group.neg p.1 ∙ sym (hom_neg (term_of_hom unit) p.0))
 
 plain_product : (a : Name → Action) (v w : Operator) → IsPlain v → IsPlain w → IsPlain (product_of a v w)
-plain_product a v w p q = (times p.0 q.0, ap₂ (product_of a) p.1 q.1 ∙ product_of-polynomial a p.0 (term_of unit q.0) ∙ multiple-term_of a p.0 unit q.0)
+plain_product a v w p q =
+    (times p.0 q.0, ap₂ (product_of a) p.1 q.1 ∙ product_of-polynomial a p.0 (term_of unit q.0) ∙ multiple-term_of a p.0 unit q.0)
 
 -- ---- checked steps
 
@@ -64,7 +66,8 @@ AllUnit es = EachTerm (λ m c. m ≡ unit) es
 plain_list : (es : List (Mono × Polynomial)) → AllUnit es → IsPlain (operator_of es)
 plain_list [] each = subst IsPlain (sym operator_laws.sums_of_terms.of_none) plain_zero
 plain_list (e ∷ es) each =
-    subst IsPlain (sym (operator_laws.sums_of_terms.of_more e es)) (plain_sum (term_of e.0 e.1) (operator_of es) (e.1, ap (λ m. term_of m e.1) each.0) (plain_list es each.1))
+    subst IsPlain (sym (operator_laws.sums_of_terms.of_more e es))
+        (plain_sum (term_of e.0 e.1) (operator_of es) (e.1, ap (λ m. term_of m e.1) each.0) (plain_list es each.1))
 
 over_units : (d : ℕ) (es : List (Mono × Polynomial)) → AllUnit es → AllUnit (map (entry_over d) es)
 over_units d [] each = tt
@@ -78,7 +81,8 @@ polynomial_units p = by (polys.is_zero p) refl
         let absent : term_of unit p ≡ no_operator = ap (term_of unit) (polys.true_zero p none) ∙ term_of-zero unit in
         subst AllUnit (sym (ap (λ (v : Operator). v.terms) absent ∙ terms-no_operator)) tt
     by false some =
-        subst AllUnit (sym (terms-term_of unit p (λ zero. let no : true ≡ false = sym (ap polys.is_zero zero ∙ polys.zero_true) ∙ some in false≢true (sym no)))) (refl, tt)
+        subst AllUnit (sym (terms-term_of unit p (λ zero. let no : true ≡ false = sym (ap polys.is_zero zero ∙ polys.zero_true) ∙ some in
+            false≢true (sym no)))) (refl, tt)
 
 over_whole-plain : (d : ℕ) (v : Operator) → IsPlain v → IsPlain (over_whole d v)
 unfolding over_whole
@@ -104,12 +108,18 @@ negated-plain v r p e =
 checked_plus-plain : (a : Name → Action) (v w r : Value) → IsPlainValue v → IsPlainValue w → checked_plus a v w ≡ Ok r → IsPlainValue r
 checked_plus-plain a v w r p q e =
     let s = plus_steps a v w r e in
-    subst IsPlainValue s.last (lowest-plain s.total s.whole (checked_sum-plain s.mine s.its s.total (checked_multiple-plain a _ v.operator s.mine p s.first) (checked_multiple-plain a _ w.operator s.its q s.second) s.joined))
+    subst IsPlainValue s.last
+        (lowest-plain s.total s.whole
+        (checked_sum-plain s.mine s.its s.total (checked_multiple-plain a _ v.operator s.mine p s.first)
+        (checked_multiple-plain a _ w.operator s.its q s.second) s.joined))
 
 checked_minus-plain : (a : Name → Action) (v w r : Value) → IsPlainValue v → IsPlainValue w → checked_minus a v w ≡ Ok r → IsPlainValue r
 checked_minus-plain a v w r p q e =
     let s = minus_steps a v w r e in
-    subst IsPlainValue s.last (lowest-plain s.total s.whole (checked_difference-plain s.mine s.its s.total (checked_multiple-plain a _ v.operator s.mine p s.first) (checked_multiple-plain a _ w.operator s.its q s.second) s.joined))
+    subst IsPlainValue s.last
+        (lowest-plain s.total s.whole
+        (checked_difference-plain s.mine s.its s.total (checked_multiple-plain a _ v.operator s.mine p s.first)
+        (checked_multiple-plain a _ w.operator s.its q s.second) s.joined))
 
 checked_times-plain : (a : Name → Action) (v w r : Value) → IsPlainValue v → IsPlainValue w → checked_times a v w ≡ Ok r → IsPlainValue r
 checked_times-plain a v w r p q e =

@@ -71,13 +71,16 @@ module _ {a : Name → Action} {P : Value → Type 0} {step : Expr-F Bool Bool �
   terms-keep : (ts : List ((t : Summand) × TermClaim t)) (o : Option Value) (r : Value) → SoFar o
       → all_true (map term_asked (map (λ t. t.0) ts)) ≡ true → sum_from a o (map (fraction_of_term a) (map (λ t. t.0) ts)) ≡ Ok r → P r
   unfolding sum_from
-  terms-keep [] o r so all e = let same : or_else (over_one no_operator) o ≡ r = cc in subst P same (so_far-or (over_one no_operator) o keeps.nothing so)
+  terms-keep [] o r so all e = let same : or_else (over_one no_operator) o ≡ r = cc in
+      subst P same (so_far-or (over_one no_operator) o keeps.nothing so)
   terms-keep (t ∷ ts) o r so all e =
       let parts = both (term_asked t.0) (all_true (map term_asked (map (λ t. t.0) ts))) all in
       let rest = λ (more : Value). sum_from a (Some more) (map (fraction_of_term a) (map (λ t. t.0) ts)) in
       let first = both_fit (fraction_of_term a t.0).1 (λ x. joined a o (fraction_of_term a t.0).0 x >>= rest) r e in
       let second = both_fit (joined a o (fraction_of_term a t.0).0 first.value) rest r first.rest in
-      terms-keep ts (Some second.value) r (joined-keeps o (fraction_of_term a t.0).0 first.value second.value so (t.1 first.value first.first parts.0) second.first) parts.1 second.rest
+      terms-keep ts (Some second.value) r
+          (joined-keeps o (fraction_of_term a t.0).0 first.value second.value so (t.1 first.value first.first parts.0) second.first) parts.1
+          second.rest
 
   factors-keep : (fs : List ((x : Expr) × Claim x)) (o : Option Value) (r : Value) → SoFar o
       → all_true (map asked (map (λ x. x.0) fs)) ≡ true → product_from a o (map (fraction_of a) (map (λ x. x.0) fs)) ≡ Ok r → P r
@@ -88,7 +91,8 @@ module _ {a : Name → Action} {P : Value → Type 0} {step : Expr-F Bool Bool �
       let rest = λ (more : Value). product_from a (Some more) (map (fraction_of a) (map (λ x. x.0) fs)) in
       let first = both_fit (fraction_of a f.0) (λ x. multiplied a o x >>= rest) r e in
       let second = both_fit (multiplied a o first.value) rest r first.rest in
-      factors-keep fs (Some second.value) r (multiplied-keeps o first.value second.value so (f.1 first.value first.first parts.0) second.first) parts.1 second.rest
+      factors-keep fs (Some second.value) r (multiplied-keeps o first.value second.value so (f.1 first.value first.first parts.0) second.first)
+          parts.1 second.rest
 
   layer-keeps : (y : Expr-F ((x : Expr) × Claim x) ((t : Summand) × TermClaim t)) → Claim (roll-Expr (map-Expr _ _ _ _ (λ x. x.0) (λ t. t.0) y))
   unfolding fraction_of fraction_of_term value_step
@@ -114,11 +118,15 @@ module _ {a : Name → Action} {P : Value → Type 0} {step : Expr-F Bool Bool �
       factors-keep fs None v tt (sym (keeps.products _) ∙ sym (fold-roll-Expr _ _ _ _ _) ∙ all) (sym (fold-roll-Expr _ _ _ _ _) ∙ e)
   layer-keeps (Expr-F.Power base n) v e all =
       let steps = both_fit (fraction_of a base.0) (λ x. power_from a one_value n x) v (sym (fold-roll-Expr _ _ _ _ _) ∙ e) in
-      power-keeps one_value steps.value v n keeps.one (base.1 steps.value steps.first (sym (keeps.powers _ n) ∙ sym (fold-roll-Expr _ _ _ _ _) ∙ all)) steps.rest
+      power-keeps one_value steps.value v n keeps.one (base.1 steps.value steps.first (sym (keeps.powers _ n) ∙ sym (fold-roll-Expr _ _ _ _ _) ∙ all))
+          steps.rest
 
-  term-keeps : (y : Summand-F ((x : Expr) × Claim x) ((t : Summand) × TermClaim t)) → TermClaim (roll-Summand (map-Summand _ _ _ _ (λ x. x.0) (λ t. t.0) y))
+  term-keeps : (y : Summand-F ((x : Expr) × Claim x) ((t : Summand) × TermClaim t)) →
+      TermClaim (roll-Summand (map-Summand _ _ _ _ (λ x. x.0) (λ t. t.0) y))
   unfolding fraction_of fraction_of_term
-  term-keeps y v e all = y.expr.1 v (ap (λ (s : Bool × Checked Value). s.1) (sym (fold-roll-Summand _ _ _ _ _)) ∙ e) (sym (fold-roll-Summand _ _ _ _ _) ∙ all)
+  term-keeps y v e all = y.expr.1 v (ap (λ (s : Bool × Checked Value). s.1) (sym (fold-roll-Summand _ _ _ _ _)) ∙ e)
+      (sym (fold-roll-Summand _ _ _ _ _) ∙ all)
 
   pub values_keep : (x : Expr) → Claim x
-  values_keep = ind-Expr Claim TermClaim (λ x y is. subst (λ z. Claim (roll-Expr z)) is (layer-keeps y)) (λ x y is. subst (λ z. TermClaim (roll-Summand z)) is (term-keeps y))
+  values_keep = ind-Expr Claim TermClaim (λ x y is. subst (λ z. Claim (roll-Expr z)) is (layer-keeps y))
+      (λ x y is. subst (λ z. TermClaim (roll-Summand z)) is (term-keeps y))

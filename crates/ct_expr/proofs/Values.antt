@@ -102,11 +102,15 @@ pub whole_fits : (n : ℤ) → IsTrue (is_evaluable (e.Whole n)) → IsTrue (is_
 whole_fits n h = let fits = subst IsTrue (evaluable-Whole n) h in rw (same_whole n fits) fits
 
 module _ (a : Name → Action) (so_far : Option Value) where
-  pub sum_step : (t : Summand) (rest : List Summand) → sum_from a so_far (signed a (t ∷ rest)) ≡ (fraction_of a (out-Summand t).expr >>= (λ x. joined a so_far (out-Summand t).negative x >>= (λ more. sum_from a (Some more) (signed a rest))))
+  pub sum_step : (t : Summand) (rest : List Summand) →
+      sum_from a so_far (signed a (t ∷ rest)) ≡
+      (fraction_of a (out-Summand t).expr >>= (λ x. joined a so_far (out-Summand t).negative x >>= (λ more. sum_from a (Some more) (signed a rest))))
   unfolding sum_from
   sum_step t rest = ap (λ p. p.1 >>= (λ x. joined a so_far p.0 x >>= (λ more. sum_from a (Some more) (signed a rest)))) (fraction_of_term-out a t)
 
-  pub product_step : (f : Expr) (rest : List Expr) → product_from a so_far (fractions a (f ∷ rest)) ≡ (fraction_of a f >>= (λ x. multiplied a so_far x >>= (λ more. product_from a (Some more) (fractions a rest))))
+  pub product_step : (f : Expr) (rest : List Expr) →
+      product_from a so_far (fractions a (f ∷ rest)) ≡
+      (fraction_of a f >>= (λ x. multiplied a so_far x >>= (λ more. product_from a (Some more) (fractions a rest))))
   unfolding product_from
   product_step f rest = refl
 
@@ -123,5 +127,7 @@ ratio_fits n d h = let fits = subst IsTrue (evaluable-Ratio n d) h in let same =
 pub first_evaluable : (f : Expr) (rest : List Expr) → IsTrue (all_evaluable (f ∷ rest)) → IsTrue (is_evaluable f) × IsTrue (all_evaluable rest)
 first_evaluable f rest h = both (is_evaluable f) (all_evaluable rest) h
 
-pub first_evaluable_term : (t : Summand) (rest : List Summand) → IsTrue (all_evaluable_terms (t ∷ rest)) → IsTrue (is_evaluable (out-Summand t).expr) × IsTrue (all_evaluable_terms rest)
-first_evaluable_term t rest h = let parts = both (is_evaluable_term t) (all_evaluable_terms rest) h in (subst IsTrue (evaluable_term-out t) parts.0, parts.1)
+pub first_evaluable_term : (t : Summand) (rest : List Summand) → IsTrue (all_evaluable_terms (t ∷ rest)) →
+    IsTrue (is_evaluable (out-Summand t).expr) × IsTrue (all_evaluable_terms rest)
+first_evaluable_term t rest h = let parts = both (is_evaluable_term t) (all_evaluable_terms rest) h in
+    (subst IsTrue (evaluable_term-out t) parts.0, parts.1)

@@ -123,8 +123,10 @@ shared_more f fs (g ∷ gs) some there none are = by (poly_cmp f.poly g.poly) re
     by Greater told more = step Greater told refl (more (apart Greater told (λ same. cc)))
     by Equal told more =
         let same : f.poly ≡ g.poly = poly_tied f.poly g.poly told in
-        ap₂ (λ e w. times (power g.poly e) w) (ap (λ u. picked u f.exp (exponent_in g.poly fs)) told) (shared_below f fs gs (subst (λ p. IsBelow p gs) (sym same) are.1.0))
-        ∙ ap₂ (λ p w. times (power p f.exp) w) (sym same) (sym (one_times (shared fs gs)) ∙ ap (λ e. times (power g.poly e) (shared fs gs)) (sym (ap (λ p. exponent_in p fs) (sym same) ∙ none)))
+        ap₂ (λ e w. times (power g.poly e) w) (ap (λ u. picked u f.exp (exponent_in g.poly fs)) told)
+            (shared_below f fs gs (subst (λ p. IsBelow p gs) (sym same) are.1.0))
+        ∙ ap₂ (λ p w. times (power p f.exp) w) (sym same) (sym (one_times (shared fs gs))
+            ∙ ap (λ e. times (power g.poly e) (shared fs gs)) (sym (ap (λ p. exponent_in p fs) (sym same) ∙ none)))
 
 shared_is : (fs gs : List Factor) → AreFactors fs → AreFactors gs → EachIsIn fs gs → shared fs gs ≡ product_of_factors fs
 shared_is [] gs are its each = shared_none gs
@@ -132,7 +134,8 @@ shared_is (f ∷ fs) gs are its each =
     shared_more f fs gs are.0.some each.0 (exponent_below f.poly fs are.1.0) its
     ∙ ap (times (power f.poly f.exp)) (shared_is fs gs are.1.1 its each.1)
 
-factors_whole : (fs gs : List Factor) → AreFactors fs → AreFactors gs → EachIsIn fs gs → product_of_factors gs ≡ times (product_of_factors fs) (missing fs gs)
+factors_whole : (fs gs : List Factor) → AreFactors fs → AreFactors gs → EachIsIn fs gs →
+    product_of_factors gs ≡ times (product_of_factors fs) (missing fs gs)
 factors_whole fs gs are its each =
     whole_is fs gs (covered fs gs gs each (own_exponents gs its)) ∙ ap (λ w. times w (missing fs gs)) (shared_is fs gs are its each)
 
@@ -149,12 +152,14 @@ cleared_ok w d n is its divides answer =
     let second = spread_ok w.den.factors d.factors both.value n both.rest in
     let whole : number (pos d.whole) ≡ times (number (pos q)) (number (pos w.den.whole)) =
     ap (λ k. number (pos k)) (sym (div-mul_cancel w.den.whole divides.whole)) ∙ number-product q w.den.whole in
-    ap (λ m. times m (times (number (pos w.den.whole)) (product_of_factors w.den.factors))) (sym second ∙ ap (λ m. times m (missing w.den.factors d.factors)) (sym first))
+    ap (λ m. times m (times (number (pos w.den.whole)) (product_of_factors w.den.factors)))
+        (sym second ∙ ap (λ m. times m (missing w.den.factors d.factors)) (sym first))
     ∙ sorted w.numerator (number (pos q)) (missing w.den.factors d.factors) (number (pos w.den.whole)) (product_of_factors w.den.factors)
     ∙ ap₂ (λ a b. times w.numerator (times a b)) (sym whole) (sym (factors_whole w.den.factors d.factors is.factors its.factors divides.factors))
   where
     sorted : (n q m w p : Polynomial) → times (times (times n q) m) (times w p) ≡ times n (times (times q w) (times p m))
-    sorted n q m w p = ap (λ x. times (times (times n q) m) x) refl ∙ times_assoc (times n q) m (times w p) ∙ times_assoc n q _ ∙ ap (times n) (inner q m w p)
+    sorted n q m w p = ap (λ x. times (times (times n q) m) x) refl ∙ times_assoc (times n q) m (times w p) ∙ times_assoc n q _
+        ∙ ap (times n) (inner q m w p)
       where
         inner : (q m w p : Polynomial) → times q (times m (times w p)) ≡ times (times q w) (times p m)
         inner q m w p = ap (times q) (times_left_comm m w p ∙ ap (times w) (times_comm m p)) ∙ sym (times_assoc q w (times p m))

@@ -29,7 +29,8 @@ wider_is d e whole answer is it =
       den = record { positive = least.positive; within = kept.low; factors = all_greatest_factors d.factors e.factors is.factors it.factors };
       first = record {
         whole = least.first;
-        factors = EachIsIn-grown d.factors d.factors (all_greatest d.factors e.factors) (EachIsIn-itself d.factors is.factors) (λ p. all_grow p d.factors e.factors is.factors it.factors);
+        factors = EachIsIn-grown d.factors d.factors (all_greatest d.factors e.factors) (EachIsIn-itself d.factors is.factors)
+            (λ p. all_grow p d.factors e.factors is.factors it.factors);
       };
       second = record { whole = least.second; factors = all_stand d.factors e.factors is.factors it.factors };
     }
@@ -37,7 +38,8 @@ wider_is d e whole answer is it =
 pub wider_ok : (d e w : Denominator) → checked_wider d e ≡ Ok w → IsDenominator d → IsDenominator e → Wider d e w
 unfolding checked_wider
 wider_ok d e w answer is it =
-    let both = both_fit (checked_whole (least_common d.whole e.whole)) (λ whole. Ok (record { whole = whole; factors = all_greatest d.factors e.factors })) w answer in
+    let both = both_fit (checked_whole (least_common d.whole e.whole))
+            (λ whole. Ok (record { whole = whole; factors = all_greatest d.factors e.factors })) w answer in
     subst (Wider d e) (same_ok (record { whole = both.value; factors = all_greatest d.factors e.factors }) w both.rest)
     (wider_is d e both.value both.first is it)
 
@@ -54,9 +56,11 @@ pub record Common (d : Denominator) (ws : List Written) (e : Denominator) : Type
   pub first : DividesFactors d e
   pub each : EachDivides ws e
 
-pub common_divided : (d : Denominator) (ws : List Written) (e : Denominator) → checked_common d ws ≡ Ok e → IsDenominator d → EachIsWritten ws → Common d ws e
+pub common_divided : (d : Denominator) (ws : List Written) (e : Denominator) → checked_common d ws ≡ Ok e → IsDenominator d → EachIsWritten ws →
+    Common d ws e
 common_divided d [] e answer is each =
-    subst (Common d []) (same_ok d e answer) (record { den = is; first = record { whole = dvd_refl d.whole; factors = EachIsIn-itself d.factors is.factors }; each = tt })
+    subst (Common d []) (same_ok d e answer)
+        (record { den = is; first = record { whole = dvd_refl d.whole; factors = EachIsIn-itself d.factors is.factors }; each = tt })
 common_divided d (w ∷ ws) e answer is each =
     let both = both_fit (checked_wider d w.den) (λ c. checked_common c ws) e answer in
     let wide = wider_ok d w.den both.value both.first is each.0.den in

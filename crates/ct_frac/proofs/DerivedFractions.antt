@@ -75,7 +75,8 @@ module _ (i : Name) where
       let often = both_fit (checked_times n (number (pos f.exp))) _ r rest.rest in
       let part = both_fit (checked_times often.value slope.value) _ r often.rest in
       ap₂ times
-      (ap₂ times (times_ok n (number (pos f.exp)) often.value often.first) (derived_ok f.poly slope.value slope.first) ∙ times_ok often.value slope.value part.value part.first)
+      (ap₂ times (times_ok n (number (pos f.exp)) often.value often.first) (derived_ok f.poly slope.value slope.first)
+          ∙ times_ok often.value slope.value part.value part.first)
       (sym (one_times (once others)) ∙ once_ok polys.one others rest.value rest.first)
       ∙ times_ok part.value rest.value r part.rest
 
@@ -139,7 +140,8 @@ module _ (i : Name) where
             ∙ raised_power f (has_name i f.poly) exponent.value (product_of_factors fs) (once (with_name i fs)) (with_name i fs) kept.same refl;
       })
 
-  pub raised_den : (d : Denominator) (gs : List Factor) → IsDenominator d → checked_raised i d.factors ≡ Ok gs → IsDenominator (record { whole = d.whole; factors = gs })
+  pub raised_den : (d : Denominator) (gs : List Factor) → IsDenominator d → checked_raised i d.factors ≡ Ok gs →
+      IsDenominator (record { whole = d.whole; factors = gs })
   raised_den d gs is fits =
       record { positive = is.positive; within = is.within; factors = (raised_ok d.factors gs fits is.factors).factors }
 
@@ -154,7 +156,8 @@ module _ (i : Name) where
 
   -- the derivative of the denominator, times the product of the factors with the name
   den_slope :
-      (d : Denominator) → times (derived i (multiplied_out d)) (once (with_name i d.factors)) ≡ times (multiplied_out d) (slope i (with_name i d.factors))
+      (d : Denominator) → times (derived i (multiplied_out d)) (once (with_name i d.factors)) ≡ times (multiplied_out d)
+          (slope i (with_name i d.factors))
   unfolding multiplied_out times plus
   den_slope d =
       let w = number (pos d.whole) in
@@ -216,10 +219,12 @@ module _ (i : Name) where
       let den = raised_den w.den factors.value is.den factors.first in
       let d = multiplied_out w.den in
       let begun : times (derived i w.numerator) (times polys.one (once named)) ≡ start.value =
-      ap₂ times (derived_ok w.numerator derivative.value derivative.first) (once_ok polys.one named once_all.value once_all.first) ∙ times_ok derivative.value once_all.value start.value start.first in
+      ap₂ times (derived_ok w.numerator derivative.value derivative.first) (once_ok polys.one named once_all.value once_all.first)
+          ∙ times_ok derivative.value once_all.value start.value start.first in
       let cross = same_quotient w.numerator (derived i w.numerator) d (derived i d) (once named) (slope i named) left.value (den_slope w.den)
       (without_parts_ok w.numerator start.value left.value [] named left.first ∙ sym begun) in
       ap value (sym (same_ok (normal left.value e) r factors.rest))
       ∙ normal-value left.value e den
       ∙ over_derived a w.numerator d left.value (multiplied_out e) (den_nonzero w.den is.den) (den_nonzero e den) derives
-      (cross ∙ ap (times (plus (times (derived i w.numerator) d) (polys.neg (times w.numerator (derived i d))))) (sym (multiplied_out-raised w.den factors.value is.den factors.first)))
+      (cross ∙ ap (times (plus (times (derived i w.numerator) d) (polys.neg (times w.numerator (derived i d)))))
+          (sym (multiplied_out-raised w.den factors.value is.den factors.first)))

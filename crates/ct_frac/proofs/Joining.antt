@@ -36,7 +36,8 @@ found_at k i e f (g ∷ gs) found = by (poly_cmp g.poly f.poly) refl found (foun
       within = omega (arith, h.within);
       greatest = ap (λ o. by_order o (g ∷ joined_greatest f gs) (record { poly = g.poly; exp = max g.exp f.exp } ∷ gs) (f ∷ g ∷ gs)) order
           ∙ ap (λ hs. g ∷ hs) h.greatest;
-      added = ap (λ o. by_order o (checked_joined f gs >>= (λ hs. Ok (g ∷ hs))) (checked_exponent (g.exp + f.exp) >>= (λ s. Ok (record { poly = g.poly; exp = s } ∷ gs))) (Ok (f ∷ g ∷ gs))) order
+      added = ap (λ o. by_order o (checked_joined f gs >>= (λ hs. Ok (g ∷ hs)))
+          (checked_exponent (g.exp + f.exp) >>= (λ s. Ok (record { poly = g.poly; exp = s } ∷ gs))) (Ok (f ∷ g ∷ gs))) order
           ∙ ap (λ c. c >>= (λ hs. Ok (g ∷ hs))) h.added ∙ built (checked_exponent (e + f.exp)) (exponent_set gs h.place) (λ hs. g ∷ hs);
     }
     by Equal order found more = let same = first k i g.exp e found in record {
@@ -45,7 +46,8 @@ found_at k i e f (g ∷ gs) found = by (poly_cmp g.poly f.poly) refl found (foun
       within = omega arith;
       greatest = ap (λ o. by_order o (g ∷ joined_greatest f gs) (record { poly = g.poly; exp = max g.exp f.exp } ∷ gs) (f ∷ g ∷ gs)) order
           ∙ ap (λ x. record { poly = g.poly; exp = max x f.exp } ∷ gs) same.1;
-      added = ap (λ o. by_order o (checked_joined f gs >>= (λ hs. Ok (g ∷ hs))) (checked_exponent (g.exp + f.exp) >>= (λ s. Ok (record { poly = g.poly; exp = s } ∷ gs))) (Ok (f ∷ g ∷ gs))) order
+      added = ap (λ o. by_order o (checked_joined f gs >>= (λ hs. Ok (g ∷ hs)))
+          (checked_exponent (g.exp + f.exp) >>= (λ s. Ok (record { poly = g.poly; exp = s } ∷ gs))) (Ok (f ∷ g ∷ gs))) order
           ∙ ap (λ x. checked_exponent (x + f.exp) >>= (λ s. Ok (record { poly = g.poly; exp = s } ∷ gs))) same.1;
     }
     by Greater order found more = cc
@@ -59,7 +61,8 @@ pub record FoundBefore (k i : ℕ) (f : Factor) (fs : List Factor) : Type 0 wher
   pub added : checked_joined f fs ≡ Ok (insert fs place f)
 
 pub found_before : (k i : ℕ) (f : Factor) (fs : List Factor) → find_place k f.poly fs ≡ Before i → FoundBefore k i f fs
-found_before k i f [] found = record { place = 0; counted = let same : k ≡ i = cc in omega arith; within = omega arith; greatest = refl; added = refl }
+found_before k i f [] found =
+    record { place = 0; counted = let same : k ≡ i = cc in omega arith; within = omega arith; greatest = refl; added = refl }
 found_before k i f (g ∷ gs) found = by (poly_cmp g.poly f.poly) refl found (found_before (k + 1) i f gs)
   where
     by :
@@ -71,7 +74,8 @@ found_before k i f (g ∷ gs) found = by (poly_cmp g.poly f.poly) refl found (fo
       within = omega (arith, h.within);
       greatest = ap (λ o. by_order o (g ∷ joined_greatest f gs) (record { poly = g.poly; exp = max g.exp f.exp } ∷ gs) (f ∷ g ∷ gs)) order
           ∙ ap (λ hs. g ∷ hs) h.greatest;
-      added = ap (λ o. by_order o (checked_joined f gs >>= (λ hs. Ok (g ∷ hs))) (checked_exponent (g.exp + f.exp) >>= (λ s. Ok (record { poly = g.poly; exp = s } ∷ gs))) (Ok (f ∷ g ∷ gs))) order
+      added = ap (λ o. by_order o (checked_joined f gs >>= (λ hs. Ok (g ∷ hs)))
+          (checked_exponent (g.exp + f.exp) >>= (λ s. Ok (record { poly = g.poly; exp = s } ∷ gs))) (Ok (f ∷ g ∷ gs))) order
           ∙ ap (λ c. c >>= (λ hs. Ok (g ∷ hs))) h.added;
     }
     by Equal order found more = cc
@@ -80,7 +84,8 @@ found_before k i f (g ∷ gs) found = by (poly_cmp g.poly f.poly) refl found (fo
       counted = let same : k ≡ i = cc in omega arith;
       within = omega arith;
       greatest = ap (λ o. by_order o (g ∷ joined_greatest f gs) (record { poly = g.poly; exp = max g.exp f.exp } ∷ gs) (f ∷ g ∷ gs)) order;
-      added = ap (λ o. by_order o (checked_joined f gs >>= (λ hs. Ok (g ∷ hs))) (checked_exponent (g.exp + f.exp) >>= (λ s. Ok (record { poly = g.poly; exp = s } ∷ gs))) (Ok (f ∷ g ∷ gs))) order;
+      added = ap (λ o. by_order o (checked_joined f gs >>= (λ hs. Ok (g ∷ hs)))
+          (checked_exponent (g.exp + f.exp) >>= (λ s. Ok (record { poly = g.poly; exp = s } ∷ gs))) (Ok (f ∷ g ∷ gs))) order;
     }
 
 -- writing the exponent at a place

@@ -50,7 +50,8 @@ named_base i small = record {
       let one : exp (symbol (name_with i)) i ≡ 1 = exp-named i i small small ∙ ap (λ b. cond b 1 0) (eq-eqb i i refl) in
       let low = total_some (symbol (name_with i)) i small in
       omega arith;
-  primitive = sym (content_only (named i) 1 (subst (λ es. IsContentOf es 1) (sym (terms-name (name_with i))) (λ d. (λ divides. (divides, tt), λ all. all.0))));
+  primitive = sym (content_only (named i) 1
+      (subst (λ es. IsContentOf es 1) (sym (terms-name (name_with i))) (λ d. (λ divides. (divides, tt), λ all. all.0))));
   positive = unfold is_negative in ap leads_below_zero (terms-name (name_with i));
 }
 
@@ -95,7 +96,8 @@ pub differs_from_names :
     (p : Polynomial) (left i : ℕ) (m : Mono) → left + i ≡ 6 → ((j : ℕ) → i ≤ j → j < 6 → p ≢ named j) →
     DiffersFrom p (names_from left i m)
 differs_from_names p zero i m all other = tt
-differs_from_names p (suc left) i m all other = by (exp m i) (differs_from_names p left (i + 1) m (omega arith) (λ j high small. other j (omega arith) small))
+differs_from_names p (suc left) i m all other =
+    by (exp m i) (differs_from_names p left (i + 1) m (omega arith) (λ j high small. other j (omega arith) small))
   where
     by : (e : ℕ) → DiffersFrom p (names_from left (i + 1) m) → DiffersFrom p (with_exponent (named i) e (names_from left (i + 1) m))
     by zero more = more
@@ -154,7 +156,8 @@ pub product_of_factors-names_from :
 unfolding times
 product_of_factors-names_from zero i m all =
     one_is ∙ number_is (pos 1)
-    ∙ ap (λ n. term n (pos 1)) (same_mono unit (from_name i m) (λ k low. exp-unit k low ∙ sym (exp-mono (λ k. cond (ltb k i) 0 (exp m k)) k low ∙ past k low)))
+    ∙ ap (λ n. term n (pos 1))
+        (same_mono unit (from_name i m) (λ k low. exp-unit k low ∙ sym (exp-mono (λ k. cond (ltb k i) 0 (exp m k)) k low ∙ past k low)))
   where
     past : (k : ℕ) → k < 6 → cond (ltb k i) 0 (exp m k) ≡ 0
     past k low = ap (λ b. cond b 0 (exp m k)) (lt-ltb k i (omega arith))
@@ -188,4 +191,6 @@ product_of_factors-names_from (suc left) i m all =
 pub product_of_factors-names : (m : Mono) → product_of_factors (names_from 6 0 m) ≡ term m (pos 1)
 product_of_factors-names m =
     product_of_factors-names_from 6 0 m refl
-    ∙ ap (λ n. term n (pos 1)) (same_mono (from_name 0 m) m (λ k low. exp-mono (λ k. cond (ltb k 0) 0 (exp m k)) k low ∙ ap (λ b. cond b 0 (exp m k)) (le-ltb k 0 (omega arith))))
+    ∙ ap (λ n. term n (pos 1))
+        (same_mono (from_name 0 m) m (λ k low. exp-mono (λ k. cond (ltb k 0) 0 (exp m k)) k low
+        ∙ ap (λ b. cond b 0 (exp m k)) (le-ltb k 0 (omega arith))))

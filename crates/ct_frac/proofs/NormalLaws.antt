@@ -54,7 +54,8 @@ regroup t l d r s = simp (times_assoc, times_left_comm)
 -- the cross products of n over all factors, and of what is left
 lowered-value :
     (n : Polynomial) (done fs : List Factor) →
-    times n (product_of_factors (lowered n done fs).factors) ≡ times (lowered n done fs).numerator (times (product_of_factors done) (product_of_factors fs))
+    times n (product_of_factors (lowered n done fs).factors) ≡ times (lowered n done fs).numerator
+        (times (product_of_factors done) (product_of_factors fs))
 lowered-value n done [] = ap (times n) (sym (times_one (product_of_factors done)))
 lowered-value n done (f ∷ fs) =
     let left = divided_out f.poly n f.exp in
@@ -62,7 +63,8 @@ lowered-value n done (f ∷ fs) =
     let kept = done ++ with_exponent f.poly left.exponent [] in
     let r = lowered left.numerator kept fs in
     let kept_is : product_of_factors kept ≡ times (product_of_factors done) (power f.poly left.exponent) =
-    product_of_factors-append done _ ∙ ap (times (product_of_factors done)) (product_of_factors-with_exponent f.poly left.exponent [] ∙ times_one _) in
+    product_of_factors-append done _
+        ∙ ap (times (product_of_factors done)) (product_of_factors-with_exponent f.poly left.exponent [] ∙ times_one _) in
     ap (λ m. times m (product_of_factors r.factors)) (is.numerator_is ∙ times_comm _ _) ∙ times_assoc _ _ _
     ∙ ap (times (power f.poly is.lost)) (lowered-value left.numerator kept fs)
     ∙ ap (λ x. times (power f.poly is.lost) (times r.numerator (times x (product_of_factors fs)))) kept_is
@@ -86,10 +88,12 @@ module _ (n : Polynomial) (d : Denominator) (is : IsDenominator d) where
   whole_is = div-mul_cancel g greatest.1
 
   g_positive : 0 < g
-  g_positive = pos_of_ne-zero (λ none. let zero_whole : d.whole ≡ 0 = eq-zero_of_zero-dvd (subst (λ k. k ∣ d.whole) none greatest.1) in let some = is.positive in omega arith)
+  g_positive = pos_of_ne-zero (λ none. let zero_whole : d.whole ≡ 0 = eq-zero_of_zero-dvd (subst (λ k. k ∣ d.whole) none greatest.1) in
+      let some = is.positive in omega arith)
 
   whole_positive : 0 < d.whole / g
-  whole_positive = pos_of_ne-zero (λ none. let gone : 0 * g ≡ 0 = omega arith in let zero_whole : d.whole ≡ 0 = sym whole_is ∙ ap (λ k. k * g) none ∙ gone in let some = is.positive in omega arith)
+  whole_positive = pos_of_ne-zero (λ none. let gone : 0 * g ≡ 0 = omega arith in
+      let zero_whole : d.whole ≡ 0 = sym whole_is ∙ ap (λ k. k * g) none ∙ gone in let some = is.positive in omega arith)
 
   abbrev r : Written
   r = in_lowest_terms l d.whole
@@ -180,7 +184,8 @@ normal-value n d is = by (polys.is_zero n) refl
 
 pub normal-zero : (n : Polynomial) (d : Denominator) → n ≡ polys.zero → whole_polynomial polys.zero ≡ normal n d
 unfolding normal
-normal-zero n d none = ap (λ b. cond b (whole_polynomial polys.zero) (in_lowest_terms (lowered n [] d.factors) d.whole)) (sym (ap polys.is_zero none ∙ polys.zero_true))
+normal-zero n d none = ap (λ b. cond b (whole_polynomial polys.zero) (in_lowest_terms (lowered n [] d.factors) d.whole))
+    (sym (ap polys.is_zero none ∙ polys.zero_true))
 
 pub normal-nonzero : (n : Polynomial) (d : Denominator) → n ≢ polys.zero → in_lowest_terms (lowered n [] d.factors) d.whole ≡ normal n d
 unfolding normal

@@ -32,11 +32,13 @@ pub product_of_factors-append : (fs gs : List Factor) → product_of_factors (fs
 product_of_factors-append [] gs = sym (one_times (product_of_factors gs))
 product_of_factors-append (f ∷ fs) gs = ap (times (power f.poly f.exp)) (product_of_factors-append fs gs) ∙ sym (times_assoc _ _ _)
 
-pub product_of_factors-with_exponent : (p : Polynomial) (e : ℕ) (fs : List Factor) → product_of_factors (with_exponent p e fs) ≡ times (power p e) (product_of_factors fs)
+pub product_of_factors-with_exponent : (p : Polynomial) (e : ℕ) (fs : List Factor) →
+    product_of_factors (with_exponent p e fs) ≡ times (power p e) (product_of_factors fs)
 product_of_factors-with_exponent p zero fs = sym (one_times (product_of_factors fs))
 product_of_factors-with_exponent p (suc e) fs = refl
 
-pub product_of_factors-inserted : (f : Factor) (fs : List Factor) → product_of_factors (inserted f fs) ≡ times (power f.poly f.exp) (product_of_factors fs)
+pub product_of_factors-inserted : (f : Factor) (fs : List Factor) →
+    product_of_factors (inserted f fs) ≡ times (power f.poly f.exp) (product_of_factors fs)
 product_of_factors-inserted f [] = refl
 product_of_factors-inserted f (g ∷ gs) = by (poly_cmp g.poly f.poly) (product_of_factors-inserted f gs)
   where
@@ -46,7 +48,8 @@ product_of_factors-inserted f (g ∷ gs) = by (poly_cmp g.poly f.poly) (product_
     by Equal ih = refl
     by Greater ih = refl
 
-pub product_of_factors-sorted_onto : (done fs : List Factor) → product_of_factors (sorted_onto done fs) ≡ times (product_of_factors done) (product_of_factors fs)
+pub product_of_factors-sorted_onto : (done fs : List Factor) →
+    product_of_factors (sorted_onto done fs) ≡ times (product_of_factors done) (product_of_factors fs)
 product_of_factors-sorted_onto done [] = sym (times_one (product_of_factors done))
 product_of_factors-sorted_onto done (f ∷ fs) =
     product_of_factors-sorted_onto (inserted f done) fs

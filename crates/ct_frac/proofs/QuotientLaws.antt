@@ -68,7 +68,8 @@ unfolding single
 term-none m = term_is m (pos 0) ∙ none_of monomials int_group (single monomials int_group m (pos 0)) refl
 
 term-negative : (m : Mono) (c : ℤ) → polys.neg (term m c) ≡ term m (neg_ℤ c)
-term-negative m c = sym (neg_unique polys.group (term m c) (term m (neg_ℤ c)) (sym (term-sum m c (neg_ℤ c)) ∙ ap (term m) (int_group.add_neg c) ∙ term-none m))
+term-negative m c = sym
+    (neg_unique polys.group (term m c) (term m (neg_ℤ c)) (sym (term-sum m c (neg_ℤ c)) ∙ ap (term m) (int_group.add_neg c) ∙ term-none m))
 
 -- ---- the factors
 
@@ -130,7 +131,9 @@ module _ (d : Polynomial) (some : d ≢ polys.zero) where
   divisor = record { whole = content d; factors = factors_of d }
 
   content_positive : 0 < content d
-  content_positive = pos_of_ne-zero (λ none. some (sym (part_whole d) ∙ ap (λ c. times (term m c) p) (sign_of none) ∙ ap (λ w. times w p) (term-none m) ∙ (unfold times in zero_mul polys p)))
+  content_positive = pos_of_ne-zero
+      (λ none. some (sym (part_whole d) ∙ ap (λ c. times (term m c) p) (sign_of none) ∙ ap (λ w. times w p) (term-none m)
+      ∙ (unfold times in zero_mul polys p)))
     where
       sign_of : content d ≡ 0 → signed_content d ≡ pos 0
       sign_of none = unfold signed_content in ap (signed (is_negative d)) none ∙ by (is_negative d)
@@ -171,7 +174,8 @@ module _ (d : Polynomial) (some : d ≢ polys.zero) where
   unfolding times
   cross_sign n = ap (times (with_sign_of d n)) (sym with_sign) ∙ by (is_negative d)
     where
-      by : (b : Bool) → polys.◌*◌ (cond b (polys.neg n) n) (polys.◌*◌ (cond b (polys.neg polys.one) polys.one) (multiplied_out divisor)) ≡ polys.◌*◌ n (multiplied_out divisor)
+      by : (b : Bool) → polys.◌*◌ (cond b (polys.neg n) n) (polys.◌*◌ (cond b (polys.neg polys.one) polys.one) (multiplied_out divisor)) ≡
+          polys.◌*◌ n (multiplied_out divisor)
       by true = ring2 polys n (multiplied_out divisor) (λ a b. (search reify depth 12, search reify depth 12)) refl
       by false = ring2 polys n (multiplied_out divisor) (λ a b. (search reify depth 12, search reify depth 12)) refl
 

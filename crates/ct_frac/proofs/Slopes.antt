@@ -49,7 +49,8 @@ module _ (i : Name) where
   unfolding times plus
   power_slope p zero =
       ap (λ w. times w p) derived_one ∙ zero_mul polys p
-      ∙ sym (ap (λ w. times (times w (derived i p)) polys.one) number_zero ∙ ap (λ w. times w polys.one) (zero_mul polys (derived i p)) ∙ zero_mul polys polys.one)
+      ∙ sym (ap (λ w. times (times w (derived i p)) polys.one) number_zero ∙ ap (λ w. times w polys.one) (zero_mul polys (derived i p))
+          ∙ zero_mul polys polys.one)
   power_slope p (suc n) =
       let w = power p n in
       let k = number (pos n) in
@@ -115,7 +116,8 @@ module _ (i : Name) where
           ∙ ap₂ (λ u v. plus (times (times w f.poly) u) (times (times p o) v)) more (power_slope f.poly f.exp)
           ∙ ring8 polys w f.poly p s o k (derived i f.poly) polys.zero (λ a b c d e g h j. (search reify depth 20, search reify depth 20)) refl
       by false none more =
-          ap (λ v. times v o) (derived-times w p ∙ ap (λ v. plus (times w (derived i p)) (times v p)) (power_none f.poly f.exp (derived_none f.poly none)))
+          ap (λ v. times v o) (derived-times w p ∙ ap (λ v. plus (times w (derived i p)) (times v p))
+              (power_none f.poly f.exp (derived_none f.poly none)))
           ∙ ring4 polys w p (derived i p) o (λ a b c d. (search reify depth 20, search reify depth 20)) refl
           ∙ ap (times w) more
           ∙ sym (times_assoc w p s)

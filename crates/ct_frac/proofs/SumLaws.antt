@@ -96,8 +96,10 @@ difference-value x y r is it answer =
     negated_times _ _ ∙ ap polys.neg cleared.second ∙ sym (negated_times _ _) in
     ap value (sym (same_ok (normal whole.value common.value) r whole.rest))
     ∙ normal-value whole.value common.value cleared.den
-    ∙ ap (λ n. value_over n (multiplied_out common.value)) (sym (minus_ok mine.value its.value whole.value whole.first) ∙ minus_is mine.value its.value)
-    ∙ added x.numerator (polys.neg y.numerator) (multiplied_out x.den) (multiplied_out y.den) (multiplied_out common.value) mine.value (polys.neg its.value)
+    ∙ ap (λ n. value_over n (multiplied_out common.value)) (sym (minus_ok mine.value its.value whole.value whole.first)
+        ∙ minus_is mine.value its.value)
+    ∙ added x.numerator (polys.neg y.numerator) (multiplied_out x.den) (multiplied_out y.den) (multiplied_out common.value) mine.value
+        (polys.neg its.value)
     (den_nonzero x.den is.den) (den_nonzero y.den it.den) (den_nonzero common.value cleared.den) cleared.first turned
     ∙ (unfold value in ap (field.◌+◌ (value x)) (sym (over-negative y.numerator (multiplied_out y.den) (den_nonzero y.den it.den))))
 
@@ -147,11 +149,13 @@ full_product-value x y r is it answer =
     ap value (sym (same_ok (normal n.value d) r factors.rest))
     ∙ normal-value n.value d den.den
     ∙ ap₂ value_over (sym (times_ok x.numerator y.numerator n.value n.first)) den.product
-    ∙ (unfold value in sym (over-times x.numerator (multiplied_out x.den) y.numerator (multiplied_out y.den) (den_nonzero x.den is.den) (den_nonzero y.den it.den)))
+    ∙ (unfold value in sym (over-times x.numerator (multiplied_out x.den) y.numerator (multiplied_out y.den) (den_nonzero x.den is.den)
+        (den_nonzero y.den it.den)))
 
 over-zero : (d : Polynomial) → d ≢ polys.zero → value_over polys.zero d ≡ field.zero
 unfolding times
-over-zero d some = same_over polys.zero d polys.zero polys.one some polys_domain.proper (zero_mul polys polys.one ∙ sym (zero_mul polys d)) ∙ over-one polys.zero
+over-zero d some = same_over polys.zero d polys.zero polys.one some polys_domain.proper (zero_mul polys polys.one ∙ sym (zero_mul polys d))
+    ∙ over-one polys.zero
 
 value-zero : (w : Written) → IsWritten w → w.numerator ≡ polys.zero → value w ≡ field.zero
 unfolding value
@@ -163,7 +167,8 @@ unfolding checked_fraction_product
 product-value x y r is it answer = by (polys.is_zero x.numerator) (polys.is_zero y.numerator) refl refl answer
   where
     zero_is : ◌≡◌ {A = Checked Written} (Ok (whole_polynomial polys.zero)) (Ok r) → value r ≡ field.zero
-    zero_is same = ap value (sym (same_ok (whole_polynomial polys.zero) r same)) ∙ value-zero (whole_polynomial polys.zero) (whole_written polys.zero) refl
+    zero_is same = ap value (sym (same_ok (whole_polynomial polys.zero) r same))
+        ∙ value-zero (whole_polynomial polys.zero) (whole_written polys.zero) refl
 
     by :
         (s t : Bool) → polys.is_zero x.numerator ≡ s → polys.is_zero y.numerator ≡ t →
@@ -186,7 +191,9 @@ same_value_is x y b is it answer =
     let difference = difference-value x y both.value is it both.first in
     let written = sum_written x y both.value is it both.first in (
       λ yes. difference_zero (value x) (value y) (sym difference ∙ value-zero both.value written (polys.true_zero both.value.numerator (told ∙ yes))),
-      λ same. sym told ∙ ap polys.is_zero (numerator_zero both.value written (difference ∙ ap (λ v. field.◌+◌ v (field.neg (value y))) same ∙ field.add_neg (value y))) ∙ polys.zero_true,
+      λ same. sym told ∙ ap polys.is_zero
+          (numerator_zero both.value written (difference ∙ ap (λ v. field.◌+◌ v (field.neg (value y))) same ∙ field.add_neg (value y)))
+          ∙ polys.zero_true,
     )
   where
     difference_zero : (v w : K) → field.◌+◌ v (field.neg w) ≡ field.zero → v ≡ w
@@ -209,7 +216,8 @@ pub cleared-value :
     value_over n (multiplied_out d) ≡ value w
 unfolding value
 cleared-value w d n is its divides answer =
-    same_over n (multiplied_out d) w.numerator (multiplied_out w.den) (den_nonzero d its) (den_nonzero w.den is.den) (cleared_ok w d n is.den its divides answer)
+    same_over n (multiplied_out d) w.numerator (multiplied_out w.den) (den_nonzero d its) (den_nonzero w.den is.den)
+        (cleared_ok w d n is.den its divides answer)
 
 -- the test that the code makes
 pub is_zero_told : (p : Polynomial) (b : Bool) → IsTrue b ↔ (p ≡ polys.zero) → polys.is_zero p ≡ b

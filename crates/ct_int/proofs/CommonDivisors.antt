@@ -31,11 +31,13 @@ found (suc k) m c = by (eqb (m % suc k) 0) (eqb (c % suc k) 0) refl refl (found 
     }
     by true false first second below = record {
       divides = below.divides;
-      above = λ d small one other. below.above d (past d small (λ same. eqb-false _ 0 second (mod-eq-zero_of_dvd (suc k) (subst (λ n. n ∣ c) same other)))) one other;
+      above = λ d small one other. below.above d
+          (past d small (λ same. eqb-false _ 0 second (mod-eq-zero_of_dvd (suc k) (subst (λ n. n ∣ c) same other)))) one other;
     }
     by false t first second below = record {
       divides = below.divides;
-      above = λ d small one other. below.above d (past d small (λ same. eqb-false _ 0 first (mod-eq-zero_of_dvd (suc k) (subst (λ n. n ∣ m) same one)))) one other;
+      above = λ d small one other. below.above d
+          (past d small (λ same. eqb-false _ 0 first (mod-eq-zero_of_dvd (suc k) (subst (λ n. n ∣ m) same one)))) one other;
     }
 
 pub greatest_common_is : (m c : ℕ) → 0 < c → IsGcd m c (greatest_common m c)

@@ -28,7 +28,10 @@ same_sum :
     f * g ≡ d →
     (x *ℤ pos f +ℤ y *ℤ pos e) *ℤ pos (b * d) ≡ (x *ℤ pos d +ℤ y *ℤ pos b) *ℤ pos (e * d)
 same_sum x y b d e f g first second =
-    scaled_sum (x *ℤ pos f) (y *ℤ pos e) (b * d) ∙ ap₂ (λ m n. m +ℤ n) (scaled_twice x f (b * d) ∙ ap (λ n. x *ℤ pos n) (sum_places b d e f g first second) ∙ sym (scaled_twice x d (e * d))) (scaled_twice y e (b * d) ∙ ap (λ n. y *ℤ pos n) (sum_places-other b d e) ∙ sym (scaled_twice y b (e * d))) ∙ sym (scaled_sum (x *ℤ pos d) (y *ℤ pos b) (e * d))
+    scaled_sum (x *ℤ pos f) (y *ℤ pos e) (b * d)
+        ∙ ap₂ (λ m n. m +ℤ n) (scaled_twice x f (b * d) ∙ ap (λ n. x *ℤ pos n) (sum_places b d e f g first second) ∙ sym (scaled_twice x d (e * d)))
+        (scaled_twice y e (b * d) ∙ ap (λ n. y *ℤ pos n) (sum_places-other b d e) ∙ sym (scaled_twice y b (e * d)))
+        ∙ sym (scaled_sum (x *ℤ pos d) (y *ℤ pos b) (e * d))
 
 quotient-positive : (n k : ℕ) → 0 < k → 0 < n → k ∣ n → 0 < n / k
 quotient-positive n k some positive divides =
@@ -63,7 +66,8 @@ pub sum-fits :
 sum-fits p q g greatest num den passes =
     let same : passes.divisor ≡ g = same_from_IsGcd p.den q.den passes.divisor g passes.greatest greatest in
     ⊎_elim
-    (λ past. let far : largest_whole < unsigned_abs p.num * (q.den / g) + unsigned_abs q.num * (p.den / g) = rw same at past in omega (arith, far, num))
+    (λ past. let far : largest_whole < unsigned_abs p.num * (q.den / g) + unsigned_abs q.num * (p.den / g) = rw same at past in
+        omega (arith, far, num))
     (λ past. let far : largest_whole < p.den / g * q.den = rw same at past in omega (arith, far, den)) passes.past
 
 -- ---- opposites and reciprocals
@@ -95,7 +99,8 @@ SumPasses-to_opposite p q h =
 pub IsRational-reciprocal : (r : Ratio) → IsRational r → r.num ≢ pos 0 → IsRational (ratio (pos r.den) r.num)
 IsRational-reciprocal r h other = by r.num r.den h.lowest.positive h.lowest.coprime h.num_within h.den_within other
   where
-    by : (n : ℤ) (d : ℕ) → 0 < d → IsGcd (unsigned_abs n) d 1 → unsigned_abs n ≤ largest_whole → d ≤ largest_whole → n ≢ pos 0 → IsRational (ratio (pos d) n)
+    by : (n : ℤ) (d : ℕ) → 0 < d → IsGcd (unsigned_abs n) d 1 → unsigned_abs n ≤ largest_whole → d ≤ largest_whole → n ≢ pos 0 →
+        IsRational (ratio (pos d) n)
     by (pos zero) d some coprime num den other = absurd (other refl)
     by (pos (suc n)) d some coprime num den other = record {
       lowest = record { positive = omega arith; coprime = IsGcd-swap (suc n) d 1 coprime };
@@ -126,7 +131,8 @@ product_of_ratios-reciprocal p q first = by q.num
     by : (n : ℤ) → product_of_ratios p (ratio (pos q.den) n) ≡ ratio (p.num *ℤ pos q.den) (n *ℤ pos p.den)
     by (pos n) = ap (λ d. ratio (p.num *ℤ pos q.den) (pos d)) (mul_comm p.den n)
     by (negsuc n) =
-        ap₂ (λ m d. ratio m (pos d)) (times_negated p.num q.den) (mul_comm p.den (suc n)) ∙ sym (ratio-of_negated (p.num *ℤ pos q.den) (suc n * p.den) (mul-pos (omega arith) first))
+        ap₂ (λ m d. ratio m (pos d)) (times_negated p.num q.den) (mul_comm p.den (suc n))
+            ∙ sym (ratio-of_negated (p.num *ℤ pos q.den) (suc n * p.den) (mul-pos (omega arith) first))
 
 -- a refusal is judged alike by facts that follow from each other
 pub refuses-same :

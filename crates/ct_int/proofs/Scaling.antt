@@ -28,7 +28,8 @@ scaled_comm x j k = scaled_twice x j k ∙ ap (λ m. x *ℤ pos m) (mul_comm j k
 pub scaled_product : (x y : ℤ) (k : ℕ) → (x *ℤ y) *ℤ pos k ≡ (x *ℤ pos k) *ℤ y
 scaled_product (pos m) (pos n) k = ap pos (mul_right_comm m n k)
 scaled_product (pos m) (negsuc n) k = negated-times (m * suc n) k ∙ ap (λ i. neg_ℤ (pos i)) (mul_right_comm m (suc n) k)
-scaled_product (negsuc m) (pos n) k = negated-times (suc m * n) k ∙ ap (λ i. neg_ℤ (pos i)) (mul_right_comm (suc m) n k) ∙ sym (negated-times (suc m * k) n)
+scaled_product (negsuc m) (pos n) k = negated-times (suc m * n) k ∙ ap (λ i. neg_ℤ (pos i)) (mul_right_comm (suc m) n k)
+    ∙ sym (negated-times (suc m * k) n)
 scaled_product (negsuc m) (negsuc n) k = ap pos (mul_right_comm (suc m) (suc n) k) ∙ sym (negated-times_negsuc (suc m * k) n)
 
 pub scaled_negated : (x : ℤ) (k : ℕ) → neg_ℤ x *ℤ pos k ≡ neg_ℤ (x *ℤ pos k)
@@ -45,7 +46,8 @@ times_negated x (suc k) = *ℤ-negsuc x k
 -- two signs cancel
 pub both_negated : (x : ℤ) (j k : ℕ) → (x *ℤ neg_ℤ (pos j)) *ℤ neg_ℤ (pos k) ≡ (x *ℤ pos j) *ℤ pos k
 both_negated x j k =
-    times_negated (x *ℤ neg_ℤ (pos j)) k ∙ ap (λ z. neg_ℤ (z *ℤ pos k)) (times_negated x j) ∙ ap neg_ℤ (scaled_negated (x *ℤ pos j) k) ∙ neg_ℤ-neg_ℤ ((x *ℤ pos j) *ℤ pos k)
+    times_negated (x *ℤ neg_ℤ (pos j)) k ∙ ap (λ z. neg_ℤ (z *ℤ pos k)) (times_negated x j) ∙ ap neg_ℤ (scaled_negated (x *ℤ pos j) k)
+        ∙ neg_ℤ-neg_ℤ ((x *ℤ pos j) *ℤ pos k)
 
 -- a whole number divided by a divisor of its size, by the sign
 pub exact-negative : (x : ℤ) (k : ℕ) → k ∣ unsigned_abs x → x <ℤ pos 0 → neg_ℤ (pos (unsigned_abs x / k)) *ℤ pos k ≡ x
@@ -78,7 +80,8 @@ scaled_below x y (suc k) some h =
 pub int_cmp-scaled : (x y : ℤ) (k : ℕ) → 0 < k → int_cmp x y ≡ int_cmp (x *ℤ pos k) (y *ℤ pos k)
 int_cmp-scaled x y k some = int_cmp_is (x *ℤ pos k) (y *ℤ pos k) (int_cmp x y) (scaled (int_cmp x y) (int_ranks x y))
   where
-    scaled : (o : Ordering) → MatchOrdering o (x <ℤ y) (x ≡ y) (y <ℤ x) → MatchOrdering o ((x *ℤ pos k) <ℤ (y *ℤ pos k)) (x *ℤ pos k ≡ y *ℤ pos k) ((y *ℤ pos k) <ℤ (x *ℤ pos k))
+    scaled : (o : Ordering) → MatchOrdering o (x <ℤ y) (x ≡ y) (y <ℤ x) →
+        MatchOrdering o ((x *ℤ pos k) <ℤ (y *ℤ pos k)) (x *ℤ pos k ≡ y *ℤ pos k) ((y *ℤ pos k) <ℤ (x *ℤ pos k))
     scaled Less h = scaled_below x y k some h
     scaled Equal h = ap (λ z. z *ℤ pos k) h
     scaled Greater h = scaled_below y x k some h

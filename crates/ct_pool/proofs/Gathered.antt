@@ -18,9 +18,11 @@ one_next count n m k l views a b =
     all_ones zero = refl
     all_ones (suc n) = omega (arith, all_ones n)
 
-told_at : (r r' : RootView) (count : ℕ) (l : Option ℕ) → r' ≡ r → r.count ≡ count → r.made ≡ length r.joined → (r'.made ≡ length r'.joined → (next : ℕ) × Kept r'.count next l r'.joined) → (next : ℕ) × Kept count next l r.joined
+told_at : (r r' : RootView) (count : ℕ) (l : Option ℕ) → r' ≡ r → r.count ≡ count → r.made ≡ length r.joined →
+    (r'.made ≡ length r'.joined → (next : ℕ) × Kept r'.count next l r'.joined) → (next : ℕ) × Kept count next l r.joined
 told_at r r' count l same count_is full told =
-    let f : r.made ≡ length r.joined → (next : ℕ) × Kept r.count next l r.joined = subst (λ (x : RootView). x.made ≡ length x.joined → (next : ℕ) × Kept x.count next l x.joined) same told in
+    let f : r.made ≡ length r.joined → (next : ℕ) × Kept r.count next l r.joined =
+            subst (λ (x : RootView). x.made ≡ length x.joined → (next : ℕ) × Kept x.count next l x.joined) same told in
     subst (λ (k : ℕ). (next : ℕ) × Kept k next l r.joined) count_is (f full)
 
 -- both words, from the root's two loads
@@ -42,13 +44,15 @@ no_hit : (count : ℕ) (v : Sight) (o : Option ℕ) → IfSome o (λ h. (v.pendi
 no_hit count v None h = refl
 no_hit count v (Some x) h = absurd h.2
 
-not_below : (count m : ℕ) (v : Sight) (o : Option ℕ) → IfSome o (λ h. (v.pending ≡ Some h) × (h < count) × Reaches (Some m) h × (v.stopped ≡ true)) → IfSome o (λ h. m ≤ h)
+not_below : (count m : ℕ) (v : Sight) (o : Option ℕ) → IfSome o (λ h. (v.pending ≡ Some h) × (h < count) × Reaches (Some m) h × (v.stopped ≡ true)) →
+    IfSome o (λ h. m ≤ h)
 not_below count m v None h = tt
 not_below count m v (Some x) h = h.2
 
 least_of_all : (count next : ℕ) (least : Option ℕ) (views : List Sight) → Kept count next least views → IsLeastHit views least
 least_of_all count next None views k = each_map (Fits count None) (λ v. v.hit ≡ None) views (λ v f. no_hit count v v.hit f.hit_is) k.fits
-least_of_all count next (Some m) views k = (k.least_hit, each_map (Fits count (Some m)) (λ v. IfSome v.hit (λ h. m ≤ h)) views (λ v f. not_below count m v v.hit f.hit_is) k.fits)
+least_of_all count next (Some m) views k =
+    (k.least_hit, each_map (Fits count (Some m)) (λ v. IfSome v.hit (λ h. m ≤ h)) views (λ v f. not_below count m v v.hit f.hit_is) k.fits)
 
 -- what the machine keeps tells what all passes know together
 pub gathered : (count next : ℕ) (least : Option ℕ) (views : List Sight) → Kept count next least views → IsGathered count next least views

@@ -26,12 +26,14 @@ pub all_push : {X : Type 0} (P : X → Type 0) (xs ys : List X) (x : X) → ys �
 all_push P xs ys x e p a = subst (All P) (sym e) (each_all P (xs ++ x ∷ []) (each_append P xs (x ∷ []) (all_each P xs a) (p, tt)))
 
 pub all_pop : {X : Type 0} (P : X → Type 0) (xs ys : List X) (x : X) → ys ≡ xs ++ x ∷ [] → All P ys → P x × All P xs
-all_pop P xs ys x e a = let b = all_each P (xs ++ x ∷ []) (subst (All P) e a) in ((each_there P xs (x ∷ []) b).0, each_all P xs (each_here P xs (x ∷ []) b))
+all_pop P xs ys x e a = let b = all_each P (xs ++ x ∷ []) (subst (All P) e a) in
+    ((each_there P xs (x ∷ []) b).0, each_all P xs (each_here P xs (x ∷ []) b))
 
 pub each_push : {X : Type 0} (P : X → Type 0) (xs ys : List X) (x : X) → ys ≡ xs ++ x ∷ [] → P x → Each P xs → Each P ys
 each_push P xs ys x e p a = subst (Each P) (sym e) (each_append P xs (x ∷ []) a (p, tt))
 
-pub maps_push : {X Y Z : Type 0} (f : X → Z) (g : Y → Z) (xs xs' : List X) (ys ys' : List Y) (x : X) (y : Y) → xs' ≡ xs ++ x ∷ [] → ys' ≡ ys ++ y ∷ [] → f x ≡ g y → map f xs ≡ map g ys → map f xs' ≡ map g ys'
+pub maps_push : {X Y Z : Type 0} (f : X → Z) (g : Y → Z) (xs xs' : List X) (ys ys' : List Y) (x : X) (y : Y) → xs' ≡ xs ++ x ∷ [] →
+    ys' ≡ ys ++ y ∷ [] → f x ≡ g y → map f xs ≡ map g ys → map f xs' ≡ map g ys'
 maps_push f g xs xs' ys ys' x y e d same m = ap (map f) e ∙ map_push f xs x ∙ (λ i. m i ++ same i ∷ []) ∙ sym (map_push g ys y) ∙ sym (ap (map g) d)
 
 pub slice_back : {X : Type 0} (n : ℕ) (new rest : List X) → length new ≡ n → take n (new ++ rest) ≡ new

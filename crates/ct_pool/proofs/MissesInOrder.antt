@@ -10,12 +10,14 @@ use Rattle.ct_pool.specs.FirstDecided.{outcomes_below}
 use Rattle.ct_pool.proofs.Lists.{map_push}
 use Rattle.ct_pool.specs.Found.{AreMisses, AreSlots, numbers_of}
 
-get_set_cases : {X : Type 0} (xs : List X) (i k : ℕ) (a b : X) → slice_get (set xs i a) k ≡ Some b → ((k ≡ i) × (a ≡ b)) ⊎ ((k ≢ i) × (slice_get xs k ≡ Some b))
+get_set_cases : {X : Type 0} (xs : List X) (i k : ℕ) (a b : X) → slice_get (set xs i a) k ≡ Some b →
+    ((k ≡ i) × (a ≡ b)) ⊎ ((k ≢ i) × (slice_get xs k ≡ Some b))
 get_set_cases [] i k a b e = absurd (cc)
 get_set_cases (x ∷ xs) zero zero a b e = inl (refl, (cc))
 get_set_cases (x ∷ xs) zero (suc k) a b e = inr ((λ h. omega arith), e)
 get_set_cases (x ∷ xs) (suc i) zero a b e = inr ((λ h. omega arith), e)
-get_set_cases (x ∷ xs) (suc i) (suc k) a b e = ⊎_elim (λ t. inl (ap suc t.0, t.1)) (λ t. let n = t.0 in inr ((λ h. n (omega arith)), t.1)) (get_set_cases xs i k a b e)
+get_set_cases (x ∷ xs) (suc i) (suc k) a b e =
+    ⊎_elim (λ t. inl (ap suc t.0, t.1)) (λ t. let n = t.0 in inr ((λ h. n (omega arith)), t.1)) (get_set_cases xs i k a b e)
 
 module _ {M H : Type 0} (outcome : ℕ → Outcome M H) where
   pub record Filling (all ms : List (ℕ × M)) (first now : List (Option M)) : Type 0 where
@@ -33,7 +35,8 @@ module _ {M H : Type 0} (outcome : ℕ → Outcome M H) where
       apart : (n k : ℕ) → k ≢ n → one_if (n == k) ≡ 0
       apart n k ne = grind (arith, nat_tests)
 
-  pub fills : (all ms ms' : List (ℕ × M)) (first now : List (Option M)) (n : ℕ) (m : M) → ms ≡ ms' ++ (n, m) ∷ [] → Filling all ms first now → Filling all ms' first (set now n (Some m))
+  pub fills : (all ms ms' : List (ℕ × M)) (first now : List (Option M)) (n : ℕ) (m : M) → ms ≡ ms' ++ (n, m) ∷ [] → Filling all ms first now →
+      Filling all ms' first (set now n (Some m))
   fills all ms ms' first now n m e f =
       let both : AreMisses outcome (ms' ++ (n, m) ∷ []) = subst (AreMisses outcome) e f.misses in
       let here = (each_there (λ (p : ℕ × M). outcome p.0 ≡ Miss p.1) ms' ((n, m) ∷ []) both).0 in
@@ -49,7 +52,8 @@ module _ {M H : Type 0} (outcome : ℕ → Outcome M H) where
             (get_set_cases now n k (Some m) None at);
       }
 
-  pub passes_by : (all ms ms' : List (ℕ × M)) (first now : List (Option M)) (n : ℕ) (m : M) → ms ≡ ms' ++ (n, m) ∷ [] → length now ≤ n → Filling all ms first now → Filling all ms' first now
+  pub passes_by : (all ms ms' : List (ℕ × M)) (first now : List (Option M)) (n : ℕ) (m : M) → ms ≡ ms' ++ (n, m) ∷ [] → length now ≤ n →
+      Filling all ms first now → Filling all ms' first now
   passes_by all ms ms' first now n m e past f =
       let both : AreMisses outcome (ms' ++ (n, m) ∷ []) = subst (AreMisses outcome) e f.misses in
       record {
@@ -70,19 +74,24 @@ module _ {M H : Type 0} (outcome : ℕ → Outcome M H) where
   length_map f [] = refl
   length_map f (x ∷ xs) = ap suc (length_map f xs)
 
-  next_is : (first : List (Option M)) (ms : List M) (now now' : List (Option M)) (x : Option M) → now ≡ now' ++ x ∷ [] → Ordered first ms now → (map (λ m. Some m) ms ++ x ∷ reverse now' ≡ first)
+  next_is : (first : List (Option M)) (ms : List M) (now now' : List (Option M)) (x : Option M) → now ≡ now' ++ x ∷ [] → Ordered first ms now →
+      (map (λ m. Some m) ms ++ x ∷ reverse now' ≡ first)
   next_is first ms now now' x e o = ap (λ l. map (λ m. Some m) ms ++ l) (sym (ap reverse e ∙ reverse-append now' (x ∷ []))) ∙ o.rest
 
-  pub next_at : (first : List (Option M)) (ms : List M) (now now' : List (Option M)) (x : Option M) → now ≡ now' ++ x ∷ [] → Ordered first ms now → slice_get first (length ms) ≡ Some x
+  pub next_at : (first : List (Option M)) (ms : List M) (now now' : List (Option M)) (x : Option M) → now ≡ now' ++ x ∷ [] → Ordered first ms now →
+      slice_get first (length ms) ≡ Some x
   next_at first ms now now' x e o =
       let n = next_is first ms now now' x e o in
-      ap (slice_get first) (sym (length_map (λ (m : M). Some m) ms)) ∙ ap (λ l. slice_get l (length (map (λ (m : M). Some m) ms))) (sym n) ∙ at_here (map (λ m. Some m) ms) (reverse now') x
+      ap (slice_get first) (sym (length_map (λ (m : M). Some m) ms)) ∙ ap (λ l. slice_get l (length (map (λ (m : M). Some m) ms))) (sym n)
+          ∙ at_here (map (λ m. Some m) ms) (reverse now') x
 
-  pub orders : (first : List (Option M)) (ms ms' : List M) (now now' : List (Option M)) (m : M) → AreSlots outcome first → now ≡ now' ++ Some m ∷ [] → ms' ≡ ms ++ m ∷ [] → Ordered first ms now → Ordered first ms' now'
+  pub orders : (first : List (Option M)) (ms ms' : List M) (now now' : List (Option M)) (m : M) → AreSlots outcome first → now ≡ now' ++ Some m ∷ [] →
+      ms' ≡ ms ++ m ∷ [] → Ordered first ms now → Ordered first ms' now'
   orders first ms ms' now now' m slots e more o =
       let is : outcome (length ms) ≡ Miss m = slots (length ms) m (next_at first ms now now' (Some m) e o) in
       let len : length ms' ≡ suc (length ms) = ap length more ∙ (let l = length-append ms (m ∷ []) in omega arith) in
       record {
         done = ap (map (λ m. Miss m)) more ∙ map_push (λ m. Miss m) ms m ∙ (λ i. o.done i ++ sym is i ∷ []) ∙ ap (outcomes_below outcome) (sym len);
-        rest = ap (λ l. map (λ m. Some m) l ++ reverse now') more ∙ ap (λ l. l ++ reverse now') (map_push (λ m. Some m) ms m) ∙ append_assoc (map (λ m. Some m) ms) (Some m ∷ []) (reverse now') ∙ next_is first ms now now' (Some m) e o;
+        rest = ap (λ l. map (λ m. Some m) l ++ reverse now') more ∙ ap (λ l. l ++ reverse now') (map_push (λ m. Some m) ms m)
+            ∙ append_assoc (map (λ m. Some m) ms) (Some m ∷ []) (reverse now') ∙ next_is first ms now now' (Some m) e o;
       }

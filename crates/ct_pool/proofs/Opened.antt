@@ -7,8 +7,10 @@ use Rattle.ct_pool.proofs.Lists.{all_push}
 
 pub length-passes_of : (table : TableId) (n : ℕ) → length (passes_of table n) ≡ n
 length-passes_of table zero = refl
-length-passes_of table (suc n) = omega (arith, length-append (passes_of table n) (record { number = n; sight = fresh; table = table } ∷ []), length-passes_of table n)
+length-passes_of table (suc n) =
+    omega (arith, length-append (passes_of table n) (record { number = n; sight = fresh; table = table } ∷ []), length-passes_of table n)
 
 pub opened_fresh : (table : TableId) (n : ℕ) → All (λ (p : PassView). (p.table ≡ table) × (p.sight ≡ fresh)) (passes_of table n)
 opened_fresh table zero = λ k d below. absurd (omega arith)
-opened_fresh table (suc n) = all_push (λ (p : PassView). (p.table ≡ table) × (p.sight ≡ fresh)) (passes_of table n) (passes_of table (suc n)) (record { number = n; sight = fresh; table = table }) refl (refl, refl) (opened_fresh table n)
+opened_fresh table (suc n) = all_push (λ (p : PassView). (p.table ≡ table) × (p.sight ≡ fresh)) (passes_of table n) (passes_of table (suc n))
+    (record { number = n; sight = fresh; table = table }) refl (refl, refl) (opened_fresh table n)

@@ -13,11 +13,13 @@ use lib.ListN.{get_elem?}
 module _ {X : Type 0} where
   get_past : (xs ys : List X) (k : ℕ) (v : X) → slice_get ys k ≡ Some v → slice_get (xs ++ ys) (length xs + k) ≡ Some v
   get_past [] ys k v e = let z : 0 + k ≡ k = omega arith in ap (slice_get ys) z ∙ e
-  get_past (x ∷ xs) ys k v e = let z : suc (length xs) + k ≡ suc (length xs + k) = omega arith in ap (slice_get (x ∷ (xs ++ ys))) z ∙ get_past xs ys k v e
+  get_past (x ∷ xs) ys k v e = let z : suc (length xs) + k ≡ suc (length xs + k) = omega arith in
+      ap (slice_get (x ∷ (xs ++ ys))) z ∙ get_past xs ys k v e
 
   set_past : (xs ys : List X) (k : ℕ) (u : X) → set (xs ++ ys) (length xs + k) u ≡ xs ++ set ys k u
   set_past [] ys k u = let z : 0 + k ≡ k = omega arith in ap (λ n. set ys n u) z
-  set_past (x ∷ xs) ys k u = let z : suc (length xs) + k ≡ suc (length xs + k) = omega arith in ap (λ n. set (x ∷ (xs ++ ys)) n u) z ∙ ap (λ l. x ∷ l) (set_past xs ys k u)
+  set_past (x ∷ xs) ys k u = let z : suc (length xs) + k ≡ suc (length xs + k) = omega arith in
+      ap (λ n. set (x ∷ (xs ++ ys)) n u) z ∙ ap (λ l. x ∷ l) (set_past xs ys k u)
 
   pub get_set : (xs : List X) (k : ℕ) (v u : X) → slice_get xs k ≡ Some v → slice_get (set xs k u) k ≡ Some u
   get_set [] k v u e = absurd (cc)
@@ -41,17 +43,22 @@ stands (n ∷ ns) zero v e =
     (0, subst (λ m. Stands (m ∷ ns) 0 v 0) (sym same) (record { here = refl; changed = λ u. refl }))
 stands (n ∷ ns) (suc id) v e =
     let r = stands ns id v e in
-    (length (sights_of n) + r.0, record { here = get_past (sights_of n) (flat ns) r.0 v r.1.here; changed = λ u. ap (λ l. sights_of n ++ l) (r.1.changed u) ∙ sym (set_past (sights_of n) (flat ns) r.0 u) })
+    (length (sights_of n) + r.0,
+        record { here = get_past (sights_of n) (flat ns) r.0 v r.1.here; changed = λ u. ap (λ l. sights_of n ++ l) (r.1.changed u)
+        ∙ sym (set_past (sights_of n) (flat ns) r.0 u) })
 
 -- a worker is not the root
-pub not_root : (views : List Note) (id count made : ℕ) (joined : List Sight) (v : Sight) → get_elem? views 0 ≡ some (root_note count made joined) → get_elem? views id ≡ some (live_note v) → id ≢ 0
+pub not_root : (views : List Note) (id count made : ℕ) (joined : List Sight) (v : Sight) → get_elem? views 0 ≡ some (root_note count made joined) →
+    get_elem? views id ≡ some (live_note v) → id ≢ 0
 not_root views id count made joined v root at is =
     let a : get_elem? views 0 ≡ some (live_note v) = ap (get_elem? views) (sym is) ∙ at in
     let b : some (root_note count made joined) ≡ some (live_note v) = sym root ∙ a in
     let c : root_note count made joined ≡ live_note v = some-injective _ _ b in
     let d : false ≡ true = ap (λ (n : Note). n.live) c in absurd (cc)
 
-pub root_stays : (views : List Note) (id count made : ℕ) (joined : List Sight) (v : Sight) (w : Note) → get_elem? views 0 ≡ some (root_note count made joined) → get_elem? views id ≡ some (live_note v) → get_elem? (set views id w) 0 ≡ some (root_note count made joined)
+pub root_stays : (views : List Note) (id count made : ℕ) (joined : List Sight) (v : Sight) (w : Note) →
+    get_elem? views 0 ≡ some (root_note count made joined) → get_elem? views id ≡ some (live_note v) →
+    get_elem? (set views id w) 0 ≡ some (root_note count made joined)
 root_stays views id count made joined v w root at = set_else views id 0 w (λ e. not_root views id count made joined v root at (sym e)) ∙ root
 
 -- each worker claims at most one number past the count, so the word stays small
@@ -59,7 +66,8 @@ past_count : (count : ℕ) (n : ℕ) → n ≤ count + sum_below (λ x. one_if (
 past_count count zero = omega arith
 past_count count (suc n) = one (one_if (nat_le count n)) (past_count count n) refl
   where
-    one : (k : ℕ) → n ≤ count + sum_below (λ x. one_if (nat_le count x)) n → one_if (nat_le count n) ≡ k → suc n ≤ count + (sum_below (λ x. one_if (nat_le count x)) n + one_if (nat_le count n))
+    one : (k : ℕ) → n ≤ count + sum_below (λ x. one_if (nat_le count x)) n → one_if (nat_le count n) ≡ k →
+        suc n ≤ count + (sum_below (λ x. one_if (nat_le count x)) n + one_if (nat_le count n))
     one k h e = step n count (sum_below (λ x. one_if (nat_le count x)) n) h
       where
         step : (n count b : ℕ) → n ≤ count + b → suc n ≤ count + (b + one_if (nat_le count n))
@@ -95,5 +103,7 @@ pub next_bound : (count next : ℕ) (least : Option ℕ) (views : List Sight) �
 next_bound count next least views k =
     let a = past_count count next in
     let b = k.claimed (λ x. one_if (nat_le count x)) in
-    let c = sum_over-below (λ v. sum_over (λ x. one_if (nat_le count x)) v.claims) (λ v. 1) views (each_map (Fits count least) (λ v. sum_over (λ x. one_if (nat_le count x)) v.claims ≤ 1) views (λ v f. one_past count least v f) k.fits) in
+    let c = sum_over-below (λ v. sum_over (λ x. one_if (nat_le count x)) v.claims) (λ v. 1) views
+            (each_map (Fits count least) (λ v. sum_over (λ x. one_if (nat_le count x)) v.claims ≤ 1) views (λ v f. one_past count least v f) k.fits)
+            in
     let d = ones views in omega arith

@@ -120,7 +120,8 @@ module _ (a : Name → Action) where
       identity =
           ap (λ n. multiple a n p) w.scale_is ∙ multiple-multiple a m s.scale p ∙ ap (multiple a m) r.identity
           ∙ multiple-sum a m _ _
-          ∙ ap₂ sum_of_operators (multiple-combination m s.cofactors generators ∙ ap (λ cs. combination a cs generators) (sym w.cofactors_are)) (sym w.rest_is);
+          ∙ ap₂ sum_of_operators (multiple-combination m s.cofactors generators ∙ ap (λ cs. combination a cs generators) (sym w.cofactors_are))
+              (sym w.rest_is);
     }
 
     pub taken_reduces :

@@ -17,7 +17,8 @@ module _ (a : Name → Action) (generators : List Operator) where
     pub rank_falls : reduction_rank generators t < reduction_rank generators s
     pub length_kept : length t.cofactors ≡ length s.cofactors
 
-  module _ (s : Reduction) (h : Reducible) (p : Step) (m : Reduction) (is : Some h ≡ greatest_reducible generators s) (planned : checked_plan a h ≡ Ok p) (multiplied : multiplied_unless_one a p.factor s ≡ Ok m) where
+  module _ (s : Reduction) (h : Reducible) (p : Step) (m : Reduction) (is : Some h ≡ greatest_reducible generators s)
+      (planned : checked_plan a h ≡ Ok p) (multiplied : multiplied_unless_one a p.factor s ≡ Ok m) where
     multiplied_length : length m.cofactors ≡ length s.cofactors
     multiplied_length =
         ap length (unless_one_is a p.factor s m multiplied).cofactors_are

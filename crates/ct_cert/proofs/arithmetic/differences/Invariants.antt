@@ -5,7 +5,8 @@ use Rattle.ct_cert.proofs.arithmetic.differences.Given as goal
 
 abbrev pub invariant-loop-part : goal.invariant-loop-part
 invariant-loop-part l = record {
-  same : checked_differences (actions_of l.algebra) l.sum (map summand_of l.rest) ≡ checked_differences (actions_of l.algebra) no_operator (map summand_of l.fn.parts);
+  same : checked_differences (actions_of l.algebra) l.sum (map summand_of l.rest) ≡ checked_differences (actions_of l.algebra) no_operator
+      (map summand_of l.fn.parts);
   named : All (IsNamed l.algebra) l.rest;
 }
 

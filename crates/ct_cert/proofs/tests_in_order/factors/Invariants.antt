@@ -5,7 +5,8 @@ use Rattle.ct_cert.proofs.tests_in_order.factors.Given as goal
 
 abbrev pub invariant-loop-part : goal.invariant-loop-part
 invariant-loop-part l = record {
-  same : for_each (part_test (actions_of l.algebra) l.scale) (map summand_of l.rest) ≡ for_each (part_test (actions_of l.algebra) l.scale) (map summand_of l.fn.parts);
+  same : for_each (part_test (actions_of l.algebra) l.scale) (map summand_of l.rest) ≡ for_each (part_test (actions_of l.algebra) l.scale)
+      (map summand_of l.fn.parts);
   named : All (IsNamed l.algebra) l.rest;
 }
 

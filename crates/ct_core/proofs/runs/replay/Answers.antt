@@ -16,4 +16,6 @@ pub returns-clause-decided : goal.returns-clause-decided
 returns-clause-decided c = run_decides c.args.count c.args.workers _ c.loop-place.state c.requires.workers.0 c.loop-place.invariant.run
 
 pub returns-clause-first_hit : goal.returns-clause-first_hit
-returns-clause-first_hit c = λ f faithful complete. run_first_hit c.args.count c.args.workers _ c.loop-place.state c.requires.workers.0 c.loop-place.invariant.run f (each_take (Agrees f) c.loop-place.place c.args.events.now faithful) complete
+returns-clause-first_hit c =
+    λ f faithful complete. run_first_hit c.args.count c.args.workers _ c.loop-place.state c.requires.workers.0 c.loop-place.invariant.run f
+    (each_take (Agrees f) c.loop-place.place c.args.events.now faithful) complete

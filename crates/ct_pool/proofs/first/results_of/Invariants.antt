@@ -5,7 +5,8 @@ use Rattle.ct_pool.proofs.first.results_of.Given as goal
 abbrev pub invariant-loop-worker : goal.invariant-loop-worker
 invariant-loop-worker g l = record {
   size : vec_len l.passes + vec_len l.team ≡ vec_len l.fn.team;
-  team : All (λ w. (w.pass.table ≡ l.claims.table) × (w.starved ≡ false → IsFound (g.J.Job.outcome l.job) l.claims.count w.pass.sight w.misses.items w.hit)) l.team.items;
+  team : All (λ w. (w.pass.table ≡ l.claims.table) × (w.starved ≡ false →
+      IsFound (g.J.Job.outcome l.job) l.claims.count w.pass.sight w.misses.items w.hit)) l.team.items;
   table : All (λ pass. pass.table ≡ l.claims.table) l.passes.items;
   ended : Each (λ v. has_ended l.claims.count v ≡ true) (map (λ pass. pass.sight) l.passes.items);
   keys : map (λ f. key_found (f.0.items, f.1)) l.founds.items ≡ map key_of (map (λ pass. pass.sight) l.passes.items);
