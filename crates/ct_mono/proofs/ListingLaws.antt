@@ -5,7 +5,8 @@ use Rattle.std.specs.Prelude.{◌≡◌, ◌≢◌, ℕ, zero, suc, ◌-◌, ◌
 use Rattle.std.specs.List.{All, AllPairs, Contains}
 use Rattle.std.proofs.Common.{sym, ◌∙◌, ap, subst, inl, inr, arith, refl, Less}
 use Rattle.std.proofs.lemmas.Bool.Decides.{eqb_tells}
-use Rattle.std.proofs.lemmas.List.Elements.{All-nil, All-cons, All-head, All-tail, All-append, All-map, All-weaker, Contains-append_left, Contains-append_right}
+use Rattle.std.proofs.lemmas.List.Elements.{All-nil, All-cons, All-head, All-tail, All-append, All-map, All-weaker, Contains-append_left}
+use Rattle.std.proofs.lemmas.List.Elements.{Contains-append_right}
 use Rattle.ct_algebra.specs.Monomial.{Mono, exp, mono, unit, total, ◌·◌, mono_cmp, exp-mono, same_mono, exp-·, exp-unit, total-·, less_of_total}
 use Rattle.ct_algebra.specs.Names.{name_with, symbol}
 use Rattle.ct_mono.specs.Listing.{UsesOnly, IsListing, only_unit, with_first, of_total, below, up_to}

@@ -1,6 +1,7 @@
 -- A scan cuts its text. Main lemma `scans_cut_the_text`, piece by piece: each is a stretch (`gap_is`, `lexeme_is`), and the scan
 -- goes on behind it (`scanned-piece`).
-use Rattle.std.proofs.Common.{◌≡◌, ℕ, zero, suc, ◌+◌, ◌<◌, ◌≤◌, Bool, true, false, IsTrue, None, Some, List, [], ◌∷◌, ◌++◌, length, take, drop, refl, sym, ap, ◌∙◌, subst, arith, append_assoc}
+use Rattle.std.proofs.Common.{◌≡◌, ℕ, zero, suc, ◌+◌, ◌<◌, ◌≤◌, Bool, true, false, IsTrue, None, Some, List, [], ◌∷◌, ◌++◌, length, take, drop, refl}
+use Rattle.std.proofs.Common.{sym, ap, ◌∙◌, subst, arith, append_assoc}
 use Rattle.std.proofs.lemmas.List.{take-append-drop, length-drop, length-take-le, length-append}
 use Rattle.ct_token.specs.declared.token.Symbol.{Symbol}
 use Rattle.ct_token.specs.declared.token.Token.{Token}
@@ -16,7 +17,8 @@ use Rattle.ct_token.proofs.Gaps.{IsGapPiece, gap_is, bad_is, no_gap_begins}
 all_of : (n : ℕ) (text more rest : List ℕ) → drop n text ≡ more ++ rest → text ≡ (take n text ++ more) ++ rest
 all_of n text more rest e = sym (take-append-drop n text) ∙ ap (λ (t : List ℕ). take n text ++ t) e ∙ sym (append_assoc (take n text) more rest)
 
-with_gap : (fresh : Bool) (at n : ℕ) (text : List ℕ) (s : Scanned) → IsGapPiece fresh n text → IsCut fresh (at + n) (drop n text) s → IsCut fresh at text s
+with_gap : (fresh : Bool) (at n : ℕ) (text : List ℕ) (s : Scanned) → IsGapPiece fresh n text → IsCut fresh (at + n) (drop n text) s →
+    IsCut fresh at text s
 with_gap fresh at n text s piece later =
     let long : length (take n text) ≡ n = length-take-le n text piece.within in
     let place : at + n + length (bytes_of later.stretches) ≡ at + length (take n text ++ bytes_of later.stretches) =
@@ -30,7 +32,8 @@ with_gap fresh at n text s piece later =
       ending = subst (λ (k : ℕ). IsEnding k later.rest s.bad) place later.ending;
     }
 
-with_lexeme : (fresh : Bool) (at n : ℕ) (text : List ℕ) (symbol : Symbol) (s : Scanned) → IsPiece symbol n text → (IsTrue (begins_gap symbol) → fresh ≡ false)
+with_lexeme : (fresh : Bool) (at n : ℕ) (text : List ℕ) (symbol : Symbol) (s : Scanned) → IsPiece symbol n text →
+    (IsTrue (begins_gap symbol) → fresh ≡ false)
     → IsCut (is_line_end symbol) (at + n) (drop n text) s
     → IsCut fresh at text (record { tokens = record { symbol = symbol; from = at; to = at + n } ∷ s.tokens; bad = s.bad })
 with_lexeme fresh at n text symbol s piece behind later =
@@ -59,7 +62,8 @@ at_bad fresh at b bs stops =
     record { stretches = []; rest = b ∷ bs; all_bytes = refl; each = tt; tokens = refl; ending = (ap Some here, stops) }
 
 -- with which a gap begins is no token where nothing but blanks stands before it
-behind : (fresh : Bool) (b : ℕ) (bs : List ℕ) (symbol : Symbol) (n : ℕ) → piece_of fresh (b ∷ bs) ≡ lexical.Lexeme symbol n → IsTrue (begins_gap symbol) → fresh ≡ false
+behind : (fresh : Bool) (b : ℕ) (bs : List ℕ) (symbol : Symbol) (n : ℕ) → piece_of fresh (b ∷ bs) ≡ lexical.Lexeme symbol n →
+    IsTrue (begins_gap symbol) → fresh ≡ false
 behind false b bs symbol n found begins = refl
 behind true b bs symbol n found begins = let no = no_gap_begins b bs symbol n found in cc
 

@@ -1,11 +1,13 @@
 -- What a piece is that is no token: a gap, or a byte that can begin neither. Main lemmas `gap_is` and `bad_is`, by the tests of
 -- `piece_of` in their order.
-use Rattle.std.proofs.Common.{◌≡◌, inl, inr, ℕ, ◌<◌, ◌≤◌, ◌==◌, ◌&&◌, Bool, true, false, not, cond, List, [], ◌∷◌, length, take, drop, refl, sym, ap, ◌∙◌, subst, arith, rules, tests}
+use Rattle.std.proofs.Common.{◌≡◌, inl, inr, ℕ, ◌<◌, ◌≤◌, ◌==◌, ◌&&◌, Bool, true, false, not, cond, List, [], ◌∷◌, length, take, drop, refl, sym, ap}
+use Rattle.std.proofs.Common.{◌∙◌, subst, arith, rules, tests}
 use Rattle.std.specs.List.{prefix_len, take_while}
 use Rattle.std.proofs.lemmas.List.Sums.{prefix_len-le-length}
 use Rattle.std.proofs.lemmas.Bool.{false≢true}
 use Rattle.ct_token.specs.Lexical as lexical
-use Rattle.ct_token.specs.Lexical.{Piece, Bad, is_blank, is_letter, is_digit, is_word_byte, is_printable, is_inside_line, line_end_len, starts_dots, comment_len, piece_of}
+use Rattle.ct_token.specs.Lexical.{Piece, Bad, is_blank, is_letter, is_digit, is_word_byte, is_printable, is_inside_line, line_end_len, starts_dots}
+use Rattle.ct_token.specs.Lexical.{comment_len, piece_of}
 use Rattle.ct_token.specs.declared.token.Symbol.{Symbol}
 use Rattle.ct_token.specs.declared.token.Symbol.TheVariants.{Word, Number, Sign, Dots, LineEnd}
 use Rattle.ct_token.specs.Lexing.{Stops}
@@ -48,7 +50,8 @@ renamed fresh n m bs e piece = let long : n ≡ m = cc in subst (λ (k : ℕ). I
 
 pub gap_is : (fresh : Bool) (b : ℕ) (bs : List ℕ) (n : ℕ) → piece_of fresh (b ∷ bs) ≡ lexical.Gap n → IsGapPiece fresh n (b ∷ bs)
 unfolding piece_of
-gap_is fresh b bs n e = by fresh (is_blank b) (b == 35) (not (line_end_len (b ∷ bs) == 0)) (is_letter b) (is_digit b) (starts_dots (b ∷ bs)) (is_printable b) refl refl refl e
+gap_is fresh b bs n e = by fresh (is_blank b) (b == 35) (not (line_end_len (b ∷ bs) == 0)) (is_letter b) (is_digit b) (starts_dots (b ∷ bs))
+    (is_printable b) refl refl refl e
   where
     by : (fresh blank hash ends letter digit dots printable : Bool)
         → is_blank b ≡ blank → (b == 35) ≡ hash → not (line_end_len (b ∷ bs) == 0) ≡ ends
@@ -79,7 +82,8 @@ gap_is fresh b bs n e = by fresh (is_blank b) (b == 35) (not (line_end_len (b �
 -- a line end and `#` are tokens only behind another one
 pub no_gap_begins : (b : ℕ) (bs : List ℕ) (symbol : Symbol) (n : ℕ) → piece_of true (b ∷ bs) ≡ lexical.Lexeme symbol n → begins_gap symbol ≡ false
 unfolding piece_of
-no_gap_begins b bs symbol n e = by (is_blank b) (b == 35) (not (line_end_len (b ∷ bs) == 0)) (is_letter b) (is_digit b) (starts_dots (b ∷ bs)) (is_printable b) refl e
+no_gap_begins b bs symbol n e = by (is_blank b) (b == 35) (not (line_end_len (b ∷ bs) == 0)) (is_letter b) (is_digit b) (starts_dots (b ∷ bs))
+    (is_printable b) refl e
   where
     by : (blank hash ends letter digit dots printable : Bool)
         → (b == 35) ≡ hash
@@ -117,7 +121,8 @@ no_end b (c ∷ bs) e = by (b == 10) refl (c == 10) refl e
 
 pub bad_is : (fresh : Bool) (b : ℕ) (bs : List ℕ) → piece_of fresh (b ∷ bs) ≡ Bad → CannotBegin b bs
 unfolding piece_of
-bad_is fresh b bs e = by fresh (is_blank b) (b == 35) (not (line_end_len (b ∷ bs) == 0)) (is_letter b) (is_digit b) (starts_dots (b ∷ bs)) (is_printable b) refl refl refl e
+bad_is fresh b bs e = by fresh (is_blank b) (b == 35) (not (line_end_len (b ∷ bs) == 0)) (is_letter b) (is_digit b) (starts_dots (b ∷ bs))
+    (is_printable b) refl refl refl e
   where
     by : (fresh blank hash ends letter digit dots printable : Bool)
         → is_blank b ≡ blank → not (line_end_len (b ∷ bs) == 0) ≡ ends → is_printable b ≡ printable

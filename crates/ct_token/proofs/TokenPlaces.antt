@@ -16,7 +16,8 @@ AreTokens-earlier bytes early late (t ∷ ts) le h =
     (record { after = omega (arith, first.after); some = first.some; within = first.within; spelled = first.spelled; whole = first.whole }, h.1)
 
 -- a piece at a place is a token
-token_at : (bytes : List ℕ) (at n : ℕ) (symbol : Symbol) → IsPiece symbol n (drop at bytes) → IsToken bytes at (record { symbol = symbol; from = at; to = at + n })
+token_at : (bytes : List ℕ) (at n : ℕ) (symbol : Symbol) → IsPiece symbol n (drop at bytes) →
+    IsToken bytes at (record { symbol = symbol; from = at; to = at + n })
 token_at bytes at n symbol piece =
     let size : at + n - at ≡ n = omega arith in
     let far : drop n (drop at bytes) ≡ drop (at + n) bytes = drop-drop n at bytes in
@@ -34,12 +35,16 @@ token_at bytes at n symbol piece =
 one_on : (bytes bs : List ℕ) (b at : ℕ) → b ∷ bs ≡ drop at bytes → bs ≡ drop (at + 1) bytes
 one_on bytes bs b at e = ap (drop 1) e ∙ drop-drop 1 at bytes
 
-scanned_are : (bytes : List ℕ) (is_fresh : Bool) (at skip : ℕ) (text : List ℕ) → text ≡ drop at bytes → AreTokens bytes (at + skip) (scanned is_fresh at skip text).tokens
+scanned_are : (bytes : List ℕ) (is_fresh : Bool) (at skip : ℕ) (text : List ℕ) → text ≡ drop at bytes →
+    AreTokens bytes (at + skip) (scanned is_fresh at skip text).tokens
 unfolding scanned
 scanned_are bytes is_fresh at skip [] e = tt
-scanned_are bytes is_fresh at (suc skip) (b ∷ bs) e = AreTokens-earlier bytes (at + suc skip) (at + 1 + skip) _ (omega arith) (scanned_are bytes is_fresh (at + 1) skip bs (one_on bytes bs b at e))
+scanned_are bytes is_fresh at (suc skip) (b ∷ bs) e =
+    AreTokens-earlier bytes (at + suc skip) (at + 1 + skip) _ (omega arith) (scanned_are bytes is_fresh (at + 1) skip bs (one_on bytes bs b at e))
 scanned_are bytes is_fresh at zero (b ∷ bs) e =
-    by (piece_of is_fresh (b ∷ bs)) refl (scanned_are bytes (fresh_after is_fresh (piece_of is_fresh (b ∷ bs))) (at + 1) (piece_len (piece_of is_fresh (b ∷ bs)) - 1) bs (one_on bytes bs b at e))
+    by (piece_of is_fresh (b ∷ bs)) refl
+        (scanned_are bytes (fresh_after is_fresh (piece_of is_fresh (b ∷ bs))) (at + 1) (piece_len (piece_of is_fresh (b ∷ bs)) - 1) bs
+        (one_on bytes bs b at e))
   where
     by : (p : Piece) → piece_of is_fresh (b ∷ bs) ≡ p
         → AreTokens bytes (at + 1 + (piece_len p - 1)) (scanned (fresh_after is_fresh p) (at + 1) (piece_len p - 1) bs).tokens

@@ -15,7 +15,8 @@ loop-at-preserved-in-Gap c =
     let piece = rw c.split_at.ensures.back at here in
     record {
       within = omega (arith, size, fits);
-      so_far = goes_on c.loop-at.tokens.items c.loop-at.is_fresh c.loop-at.at c.args.text.now (Gap c.in-Gap.len) _ piece fits.0 (omega (arith, size, fits)) c.loop-at.invariant.so_far;
+      so_far = goes_on c.loop-at.tokens.items c.loop-at.is_fresh c.loop-at.at c.args.text.now (Gap c.in-Gap.len) _ piece fits.0
+          (omega (arith, size, fits)) c.loop-at.invariant.so_far;
     }
 
 pub loop-at-preserved : goal.loop-at-preserved
@@ -24,7 +25,8 @@ loop-at-preserved c =
     let fits = c.in-Lexeme.ensures.some (omega (arith, size)) in
     let here = sym c.in-Lexeme.ensures.piece in
     let piece = rw c.split_at.ensures.back at here in
-    let far = goes_on c.loop-at.tokens.items c.loop-at.is_fresh c.loop-at.at c.args.text.now (Lexeme c.in-Lexeme.symbol c.in-Lexeme.len) _ piece fits.0 (omega (arith, size, fits)) c.loop-at.invariant.so_far in
+    let far = goes_on c.loop-at.tokens.items c.loop-at.is_fresh c.loop-at.at c.args.text.now
+            (Lexeme c.in-Lexeme.symbol c.in-Lexeme.len) _ piece fits.0 (omega (arith, size, fits)) c.loop-at.invariant.so_far in
     record {
       within = omega (arith, size, fits);
       so_far = rw (c.in_ok-push-in-Lexeme.ensures.items, c.is_line_end-is_fresh.ensures) (after_token c.loop-at.tokens.items _ _ ∙ far);

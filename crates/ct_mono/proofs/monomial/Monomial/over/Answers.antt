@@ -1,4 +1,5 @@
-use Rattle.std.proofs.Common.{◌≡◌, ◌≢◌, ◌<◌, ◌+◌, length, ℕ, sym, ◌∙◌, ap, subst, arith, below_more, get_or, get_or-set_other, get_or-set_same, length-set, MatchOption}
+use Rattle.std.proofs.Common.{◌≡◌, ◌≢◌, ◌<◌, ◌+◌, length, ℕ, sym, ◌∙◌, ap, subst, arith, below_more, get_or, get_or-set_other, get_or-set_same}
+use Rattle.std.proofs.Common.{length-set, MatchOption}
 use Rattle.ct_algebra.specs.Monomial.{mono_of, total, total-mono_of, total-·, ◌·◌}
 use Rattle.ct_algebra.proofs.MonomialLists.{product_of_sums}
 use Rattle.ct_mono.specs.Division.{Divides, over-meaning}
