@@ -1,12 +1,12 @@
 -- The proofs of specs/TermLaws: main lemmas `terms_are_coefficients` and `freedom_is_of_coefficients`. The value of a
 -- canonical list at a monomial is that of the one term with the monomial (`each_value`), and a value that is not zero is
 -- that of a term (`at_each`).
-use Rattle.std.specs.Prelude.{◌≡◌, ◌≢◌, ◌↔◌, suc, List, [], ◌∷◌}
+use Rattle.std.specs.Prelude.{◌≡◌, ◌≢◌, ◌↔◌, zero, suc, Bool, true, false, cond, T, List, [], ◌∷◌}
 use Rattle.std.specs.List.{Contains}
 use Rattle.std.proofs.Common.{sym, ◌∙◌, ap, subst, refl, arith, Ordering, Less, Equal, Greater}
 use Rattle.ct_algebra.specs.Group.{Group, zero_add}
-use Rattle.ct_algebra.specs.Terms.{Keys, by_order, EachTerm, EachTerm-weaker, AllBelow, IsCanonical, value_at}
-use Rattle.ct_algebra.specs.Laws.Terms.{less_is, at_head, not_zero}
+use Rattle.ct_algebra.specs.Terms.{Keys, by_order, is_less, EachTerm, EachTerm-weaker, AllBelow, IsCanonical, value_at}
+use Rattle.ct_algebra.specs.Laws.Terms.{less_is, at_head, not_zero, AllBelow_trans, same_list}
 use Rattle.ct_algebra.specs.Sums.{Sum, at}
 use Rattle.ct_algebra.specs.Monomial.{Mono, monomials}
 use Rattle.ct_algebra.specs.WholeNumbers.{int_group}
@@ -90,8 +90,61 @@ falls G (e ∷ f ∷ es) canonical = (less_is monomials G _ canonical.1.0, falls
 terms_of : {A : Type 0} (G : Group A) (p : Sum monomials G) → AreTermsOf G.zero p.terms (at monomials G p)
 terms_of G p = record { falling = falls G p.terms p.canonical; each = each_at monomials G p; no_others = stands monomials G p }
 
+-- ---- no other list
+
+module _ {A : Type 0} (G : Group A) where
+  not_none : (c : A) → c ≢ G.zero → T (cond (G.is_zero c) false true)
+  not_none c some = by (G.is_zero c) refl
+    where
+      by : (b : Bool) → G.is_zero c ≡ b → T (cond (G.is_zero c) false true)
+      by true none = absurd (some (G.true_zero c none))
+      by false there = subst (λ b. T (cond b false true)) (sym there) tt
+
+  canonical_of : (es : List (Mono × A)) → AreFalling es → EachTerm (λ m c. c ≢ G.zero) es → IsCanonical monomials G es
+  canonical_of [] falling some = tt
+  canonical_of (e ∷ []) falling some = (not_none e.1 some.0, tt, tt)
+  canonical_of (e ∷ f ∷ es) falling some =
+      let later = canonical_of (f ∷ es) falling.1 some.1 in
+      let less = subst (λ r. T (is_less r)) (sym falling.0) tt in
+      (not_none e.1 some.0, (less, AllBelow_trans monomials G f.0 e.0 es falling.0 later.1), later)
+
+  at_contained : (P : Mono → A → Type 0) (es : List (Mono × A)) (e : Mono × A) → EachTerm P es → Contains es e → P e.0 e.1
+  at_contained P [] e each there = absurd (omega (arith, there.1))
+  at_contained P (f ∷ es) e each (zero, within, is) = subst (λ g. P g.0 g.1) is each.0
+  at_contained P (f ∷ es) e each (suc k, within, is) = at_contained P es e each.1 (k, omega (arith, within), is)
+
+  only : (p : Sum monomials G) (es : List (Mono × A)) → AreTermsOf G.zero es (at monomials G p) → es ≡ p.terms
+  unfolding at
+  only p es are = same_list monomials G es p.terms canonical p.canonical same
+    where
+      canonical : IsCanonical monomials G es
+      canonical = canonical_of es are.falling (EachTerm-weaker (λ m c has. has.1) es are.each)
+
+      same : (m : Mono) → value_at monomials G es m ≡ value_at monomials G p.terms m
+      same m = by (G.is_zero (at monomials G p m)) refl
+        where
+          of_es : value_at monomials G es m ≢ G.zero → at monomials G p m ≡ value_at monomials G es m
+          of_es = at_each monomials G (λ k c. at monomials G p k ≡ c) es canonical (EachTerm-weaker (λ k c has. has.0) es are.each) m
+
+          none : (b : Bool) → G.is_zero (value_at monomials G es m) ≡ b → at monomials G p m ≡ G.zero →
+              value_at monomials G es m ≡ value_at monomials G p.terms m
+          none true gone is = G.true_zero _ gone ∙ sym is
+          none false there is = sym (of_es (λ gone. let e = ap G.is_zero gone ∙ G.zero_true in cc))
+
+          by : (b : Bool) → G.is_zero (at monomials G p m) ≡ b → value_at monomials G es m ≡ value_at monomials G p.terms m
+          by true gone = none (G.is_zero (value_at monomials G es m)) refl (G.true_zero _ gone)
+          by false there =
+              let listed = are.no_others m (λ gone. let e = ap G.is_zero gone ∙ G.zero_true in cc) in
+              (at_contained (λ k c. value_at monomials G es k ≡ c × (c ≢ G.zero)) es (m, at monomials G p m)
+              (each_value monomials G es canonical) listed).0
+
 pub terms_are_coefficients : TermsAreTheCoefficients
-terms_are_coefficients = record { of_polynomials = terms_of int_group; of_operators = terms_of polys.group }
+terms_are_coefficients = record {
+  of_polynomials = terms_of int_group;
+  of_operators = terms_of polys.group;
+  only_of_polynomials = only int_group;
+  only_of_operators = only polys.group;
+}
 
 pub freedom_is_of_coefficients : FreedomIsOfCoefficients
 freedom_is_of_coefficients = record {

@@ -1,11 +1,10 @@
 -- What the laws of terms say; the functions of src/laws.rt prove them.
 --     AreFalling es              each monomial of the list is below the one before it
 --     AreTermsOf zero es at      falling terms, each with the nonzero coefficient of its monomial; no other monomial has one
---     TermsAreTheCoefficients    so are the terms of a polynomial, and those of an operator
+--     TermsAreTheCoefficients    so are the terms of a polynomial, and those of an operator, and no other list is
 --     FreedomIsOfCoefficients    what is said of each term is said of each nonzero coefficient
--- There is one list at most with falling terms for the same coefficients: so measures and leading terms, which are read off
--- the terms, are known from the coefficients and the order of monomials.
-use Rattle.std.specs.Prelude.{◌≡◌, ◌≢◌, ◌↔◌, pos, List, [], ◌∷◌}
+-- So measures and leading terms, which are read off the terms, are known from the coefficients and the order of monomials.
+use Rattle.std.specs.Prelude.{◌≡◌, ◌≢◌, ◌↔◌, ℤ, pos, List, [], ◌∷◌}
 use Rattle.std.specs.List.{Contains}
 use Rattle.std.proofs.Common.{Less}
 use Rattle.ct_algebra.specs.Terms.{EachTerm}
@@ -29,6 +28,10 @@ pub record AreTermsOf {A : Type 0} (zero : A) (es : List (Mono × A)) (at : Mono
 pub record TermsAreTheCoefficients : Type 0 where
   pub of_polynomials : (p : Polynomial) → AreTermsOf (pos 0) p.terms (coefficient p)
   pub of_operators : (p : Operator) → AreTermsOf polys.zero p.terms (polynomial_at p)
+  pub only_of_polynomials :
+      (p : Polynomial) (es : List (Mono × ℤ)) → AreTermsOf (pos 0) es (coefficient p) → es ≡ p.terms
+  pub only_of_operators :
+      (p : Operator) (es : List (Mono × Polynomial)) → AreTermsOf polys.zero es (polynomial_at p) → es ≡ p.terms
 
 pub record FreedomIsOfCoefficients : Type 0 where
   pub of_polynomials : (j : Name) (p : Polynomial) → IsFreeOf j p ↔ ((m : Mono) → coefficient p m ≢ pos 0 → IsWithout j m)
