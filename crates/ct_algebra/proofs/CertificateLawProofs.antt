@@ -1,5 +1,5 @@
--- The proofs of specs/CertificateLaws: main lemmas `difference_cleared`, `certificate_telescopes` and
--- `certificate_telescopes_over_field`. The symbol passes d by the commutation rule, and what δ(d) leaves cancels; so H·E makes
+-- The proofs of specs/CertificateLaws: main lemmas `difference_cleared`, `operator_difference_cleared`,
+-- `certificate_telescopes` and `certificate_telescopes_over_field`. The symbol passes d by the commutation rule, and what δ(d) leaves cancels; so H·E makes
 -- h times a difference. The combination of the cofactors makes nothing of a vector that the generators kill, and h cancels.
 -- An operator over the field is what it makes of one there.
 use Rattle.std.specs.Prelude.{◌≡◌, ◌≢◌, refl, List, [], ◌∷◌, map}
@@ -12,7 +12,9 @@ use Rattle.ct_algebra.specs.Monomial.{Mono, monomials, products, unit}
 use Rattle.ct_algebra.specs.Names.{Name, symbols, power}
 use Rattle.ct_algebra.specs.Polynomial.{Polynomial, polys, polys_domain, times, times_is}
 use Rattle.ct_algebra.specs.Actions.{Action, Shift, Derive, Still, by_action, polynomials, sigma, delta, sigma_by, delta_by}
-use Rattle.ct_algebra.specs.Operators.{Operator, combination, apply, EachKills}
+use Rattle.ct_algebra.specs.Operators.{Operator, term_of, sum_of_operators, negative, multiple, symbol_before, combination, apply, EachKills}
+use Rattle.ct_algebra.specs.Operators.{product_of}
+use Rattle.ct_algebra.specs.OreAlgebra.{◌∘◌}
 use Rattle.ct_algebra.specs.FieldOperators.{FieldOperator, field_operator_set, field_operator_group, field_term, field_operators, over_field}
 use Rattle.ct_algebra.specs.FieldLaws.{embedded}
 use Rattle.ct_algebra.specs.Sums.{lift}
@@ -21,9 +23,10 @@ use Rattle.ct_algebra.specs.Field.{field, coefficients, plain}
 use Rattle.ct_algebra.specs.Restriction.{restricted_cancel, divided, scale-divided}
 use Rattle.ct_algebra.specs.Certificate.{Summand, Certificate, difference_numerator, difference_denominator, differences, Certifies}
 use Rattle.ct_algebra.specs.Telescoping.{difference, sum_of_differences, EachCleared, Telescopes, TelescopesUpTo, over_polynomials}
-use Rattle.ct_algebra.specs.CertificateLaws.{DifferenceIsCleared, CertificateTelescopes, CertificateTelescopesOverField}
+use Rattle.ct_algebra.specs.CertificateLaws.{DifferenceIsCleared, OperatorDifferenceIsCleared, CertificateTelescopes}
+use Rattle.ct_algebra.specs.CertificateLaws.{CertificateTelescopesOverField}
 use Rattle.ct_algebra.proofs.AppliedOperators.{apply-sum, apply-negative, apply-no_operator, apply-multiple, apply-symbol_before, apply-combination}
-use Rattle.ct_algebra.proofs.ProductRule.{power-one}
+use Rattle.ct_algebra.proofs.ProductRule.{operator_module, power-one, product_of-one}
 use Rattle.ct_algebra.proofs.ModuleLaws.{scale-zero_value, scale-zero, scale-neg, scale-scale}
 
 -- ---- in any module, for a coefficient d and vectors v and r
@@ -105,6 +108,13 @@ module _ (a : Name → Action) {V : Type 0} (W : Module polys (polynomials a) V)
 
 pub difference_cleared : {V : Type 0} → DifferenceIsCleared V
 difference_cleared a W s v w exact = apply-difference_numerator a W s v w exact
+
+-- of operators, as what they make of one
+pub operator_difference_cleared : OperatorDifferenceIsCleared
+unfolding product_of ◌∘◌ apply multiple symbol_before sum_of_operators negative
+operator_difference_cleared a s r exact =
+    sym (product_of-one a (difference_numerator a s))
+    ∙ difference_cleared a (operator_module a) s (term_of unit polys.one) r (sym exact ∙ sym (product_of-one a s.numerator))
 
 -- ---- in a module over the field
 
