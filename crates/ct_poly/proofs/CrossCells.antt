@@ -99,7 +99,7 @@ module _ {tops : Mono} {start : List ℤ} {ps qs rest more : List Term} {t : Ter
       cells_are : added cell c cells ss ≡ added (cell_of tops t.mono) t.coef cells (spots tops qs)
       cells_are = λ i. added (cell_is i) (c_is i) cells (ss_are i)
 
-no_product : (w q : Polynomial) → plus w (times (poly_of_terms []) q) ≡ w
+pub no_product : (w q : Polynomial) → plus w (times (poly_of_terms []) q) ≡ w
 unfolding plus times
 no_product w q = ap (λ v. polys.◌+◌ w (polys.◌*◌ v q)) poly_of-none ∙ ap (polys.◌+◌ w) (zero_mul polys q) ∙ polys.add_zero w
 

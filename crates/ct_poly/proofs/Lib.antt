@@ -37,3 +37,4 @@ pub mod GatheredTerms
 pub mod CellAnswers
 pub mod Crossings
 pub mod CrossCells
+pub mod CellProducts

@@ -99,7 +99,7 @@ fn measure_of_product(p: &[Term], q: &[Term]) -> Option<Measure>
 }
 
 /// The terms of a quotient of p·x + n·y in any order, where they are found in cells.
-fn quotient_of_products(
+pub(crate) fn quotient_of_products(
     alloc: Global,
     p: &[Term],
     x: &[Term],

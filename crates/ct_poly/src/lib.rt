@@ -12,6 +12,7 @@
 mod accumulation;
 mod boxes;
 mod cell_division;
+mod cell_product;
 mod cells;
 mod content;
 mod crossing;

@@ -1,11 +1,12 @@
-// Products of lists of terms: one list is halved until it is one term, whose products with the other fall as it does, and
-// the products of the halves are merged.
+// Products of lists of terms, in cells where that pays. Else one list is halved until it is one term, whose products with the
+// other fall as it does, and the products of the halves are merged.
 ghost use Rattle.std.specs.Prelude.{◌≡◌, ◌+◌, ◌*◌, ◌*ℤ◌, ◌≤◌, IfOk, length, unsigned_abs, [], ◌∷◌};
 ghost use Rattle.ct_algebra.specs.Monomial.{total};
 ghost use Rattle.ct_algebra.specs.Polynomial.{times};
 ghost use Rattle.ct_checked.specs.Limits.{largest_degree, largest_norm};
 ghost use Rattle.ct_poly.specs.Terms.{CanMultiply, IsListOf, poly_of_terms, size_of};
 
+use crate::cell_product::product_in_cells;
 use crate::sum::sum_of_terms;
 use crate::term::Term;
 use ct_mono::NoMemory;
@@ -21,6 +22,9 @@ pub(crate) fn product_of_terms(
     ensures { let value = times (poly_of_terms ps.now) (poly_of_terms qs.now) in
         IfOk result (λ v. IsListOf value (length ps.now * length qs.now) (size_of ps.now * size_of qs.now) v.items) }
 {
+    if let Some(found) = product_in_cells(alloc, ps, qs)? {
+        return Ok(found);
+    }
     if ps.len() <= qs.len() {
         product_by_halves(alloc, ps, qs)
     } else {
