@@ -3,7 +3,6 @@
 --     IsRun m ts run       run is the terms of ts up to the first whose symbols are not m
 --     IsGathering          which terms of the operator are done, and which are left
 --     IsBefore b ts n      the first n terms come before b, and one of them is where there are any
---     IsMerging            what is done and what is left of two lists that are merged
 --     IsFront ts n         the first n terms are in written form by themselves, and one is where there are any
 --     IsSum                a list in written form with the sum of another, no longer and no larger; IsSorted  its terms bounded alike
 use Rattle.std.specs.Prelude.{◌≡◌, ◌≢◌, ℕ, ◌+◌, ◌≤◌, min, List, [], ◌∷◌, ◌++◌, length, take, drop}
@@ -13,7 +12,6 @@ use Rattle.ct_algebra.specs.Terms.{merged}
 use Rattle.ct_algebra.specs.Operators.{Operator}
 use Rattle.ct_algebra.specs.Polynomial.{Polynomial}
 use Rattle.ct_algebra.specs.WholeNumbers.{int_group}
-use Rattle.ct_algebra.proofs.Merging as merging
 use Rattle.ct_checked.specs.Limits.{most_terms, largest_norm}
 use Rattle.ct_poly.specs.declared.term.Term.{Term}
 use Rattle.ct_poly.specs.Terms.{entries}
@@ -56,11 +54,6 @@ pub record IsGathering (ts : List CoefficientTerm) (out : List OpTerm) (rest : L
   pub left : rest ≡ all_terms later
   pub few : length rest ≤ length ts
   pub small : size_of rest ≤ size_of ts
-
-pub record IsMerging (ps qs done p q : List CoefficientTerm) : Type 0 where
-  pub merging : merging.IsMerging by_parts int_group (keyed ps) (keyed qs) (keyed done) (keyed p) (keyed q)
-  pub sizes : size_of done + size_of p + size_of q ≤ size_of ps + size_of qs
-  pub lengths : length done + length p + length q ≤ length ps + length qs
 
 -- each term comes before b
 abbrev pub AllBefore : CoefficientTerm → List CoefficientTerm → Type 0

@@ -7,20 +7,24 @@ use Rattle.std.proofs.lemmas.Int.{ints, unsigned_abs-mul}
 use Rattle.ct_algebra.specs.Laws.Terms.{not_zero, less_is}
 use Rattle.ct_algebra.specs.Monomial.{Mono, monomials, mono_cmp, mono_turned, mono_turned_back, mono_tied, ◌·◌}
 use Rattle.ct_algebra.specs.Polynomial.{plus, times}
-use Rattle.ct_algebra.specs.Terms.{AllBelow, IsCanonical, by_order, value_at, pick}
+use Rattle.ct_algebra.specs.Terms.{AllBelow, IsCanonical, by_order, keep, value_at, pick}
 use Rattle.ct_algebra.specs.WholeNumbers.{int_group}
 use Rattle.ct_algebra.proofs.Merging as merging
 use Rattle.ct_checked.specs.Limits.{largest_norm}
 use Rattle.ct_poly.specs.Accumulation.{EachAbove, count_above, BeginsBelow, IsBlock, Joins, Precedes, Meets}
 use Rattle.ct_poly.specs.declared.term.Term.{Term}
-use Rattle.ct_poly.specs.Terms.{entries, size_of, IsFalling, IsListOf, CanMultiply, poly_of_terms}
-use Rattle.ct_poly.proofs.Merging.{IsMerging, first_taken, second_taken, both_taken, both_gone, second_ended}
+use Rattle.ct_poly.specs.Terms.{entry, entries, size_of, IsFalling, IsListOf, CanMultiply, poly_of_terms}
+use Rattle.ct_poly.proofs.Merging as terms
+use Rattle.ct_poly.proofs.Merging.{sum_is}
 use Rattle.ct_poly.proofs.Products.{product, multiple_is}
-use Rattle.ct_poly.proofs.TermLists.{no_length, entries-append}
+use Rattle.ct_poly.proofs.TermLists.{no_length, entries-append, abs_sum}
 use Rattle.ct_poly.proofs.Termwise.{made_of}
 
 abbrev size : Term → ℕ
 size t = nat_abs t.coef
+
+abbrev IsMerging : List Term → List Term → List Term → List Term → List Term → Type 0
+IsMerging = terms.IsMerging monomials int_group entry
 
 abbrev pub multiples : Term → List Term → List Term
 multiples t us = made_of (product t) us
@@ -114,7 +118,7 @@ pub many_taken :
 many_taken {ps} {qs} {done} {q} [] back q_is each m = subst (λ d. IsMerging ps qs d back q) (sym (append-nil done)) m
 many_taken {ps} {qs} {done} {q} (a ∷ front) back q_is each m =
     subst (λ d. IsMerging ps qs d back q) (append_assoc done (a ∷ []) front)
-    (many_taken front back q_is each.1 (first_taken refl q_is each.0 refl m))
+    (many_taken front back q_is each.1 (terms.first_taken monomials int_group entry refl q_is each.0 refl m))
 
 -- what is left of the second list alone goes behind
 merging_alone :
@@ -137,15 +141,15 @@ alone_taken :
 alone_taken {ps} {qs} {done} {q'} {b} m = record {
   merging = subst (λ d. merging.IsMerging monomials int_group (entries ps) (entries qs) d [] (entries q')) (sym (entries-append done (b ∷ [])))
       (merging_alone (entries ps) (entries qs) (entries done) (b.mono, b.coef) (entries q') m.merging);
-  sizes = omega (arith, m.sizes, sum_by_push size done b, sum_by-cons size b q');
-  lengths = omega (arith, m.lengths, length-append done (b ∷ []));
+  sizes = λ size lower.
+      omega (arith, m.sizes size lower, sum_by_push (λ (t : Term). size t.coef) done b, sum_by-cons (λ (t : Term). size t.coef) b q');
 }
 
 second_first :
     {ps qs done q' : List Term} {b : Term} (p : List Term) → BeginsBelow b.mono p → IsMerging ps qs done p (b ∷ q') →
     IsMerging ps qs (done ++ b ∷ []) p q'
 second_first [] below m = alone_taken m
-second_first (a ∷ p) below m = second_taken refl refl below refl m
+second_first (a ∷ p) below m = terms.second_taken monomials int_group entry refl refl below refl m
 
 -- ---- the loop
 
@@ -170,14 +174,7 @@ pub accumulation_start :
     {ps : List Term} {t : Term} {qs done : List Term} → IsFalling ps → CanMultiply (t ∷ []) qs → done ≡ [] → IsAccumulating ps t qs done ps qs
 accumulation_start {ps} {t} {qs} falling can empty =
     let products = multiple_is t qs (multiples t qs) can refl in
-    subst (λ d. IsAccumulating ps t qs d ps qs) (sym empty) (record {
-      merging = record {
-        merging = merging.merging_start monomials int_group (entries ps) (entries (multiples t qs)) falling products.falling;
-        sizes = omega arith;
-        lengths = omega arith;
-      };
-      can = can;
-    })
+    record { merging = terms.merging_start monomials int_group entry falling products.falling empty; can = can }
 
 -- the second list at hand
 module _ {ps : List Term} {t : Term} {qs done p q q' : List Term} {b : Term} (q_is : q ≡ b ∷ q') (l : IsAccumulating ps t qs done p q) where
@@ -190,7 +187,7 @@ module _ {ps : List Term} {t : Term} {qs done p q q' : List Term} {b : Term} (q_
 
     pub meeting_small : size_of ps + nat_abs t.coef * size_of qs ≤ largest_norm → size_of back + nat_abs (t.coef *ℤ b.coef) ≤ largest_norm
     meeting_small small =
-        omega (arith, small, behind.sizes, size-multiples t qs, sum_by-cons size (times_term t b) (multiples t q'))
+        omega (arith, small, behind.sizes nat_abs abs_sum, size-multiples t qs, sum_by-cons size (times_term t b) (multiples t q'))
 
     module _ {c : ℤ} {rest : List Term} (meets : Meets back (times_term t b) c rest) where
       pub product_pushed :
@@ -200,8 +197,10 @@ module _ {ps : List Term} {t : Term} {qs done p q q' : List Term} {b : Term} (q_
         where
           joined : Joins back (times_term t b) c rest → IsMerging ps (multiples t qs) more rest (multiples t q')
           joined j =
-              both_taken j.full refl j.tied j.sum some
-              (more_is ∙ ap (λ m. (done ++ front) ++ record { mono = m; coef = c } ∷ []) (sym (mono_tied j.head.mono (t.mono · b.mono) j.tied))) behind
+              let sum : Term = record { mono = t.mono · b.mono; coef = c } in
+              let kept = terms.sum_kept monomials int_group entry (done ++ front) sum more_is j.sum (λ zero. some (j.sum ∙ zero)) in
+              terms.both_met monomials int_group entry j.full refl j.tied
+              (subst (λ m. entries more ≡ entries (done ++ front) ++ keep monomials int_group m (j.head.coef +ℤ t.coef *ℤ b.coef) []) (sym (mono_tied j.head.mono (t.mono · b.mono) j.tied)) kept) behind
 
           alone : Precedes back (times_term t b) c rest → IsMerging ps (multiples t qs) more rest (multiples t q')
           alone a =
@@ -213,7 +212,9 @@ module _ {ps : List Term} {t : Term} {qs done p q q' : List Term} {b : Term} (q_
       product_gone more none more_is = record { merging = ⊎_elim joined alone meets; can = can_rest here.can }
         where
           joined : Joins back (times_term t b) c rest → IsMerging ps (multiples t qs) more rest (multiples t q')
-          joined j = subst (λ d. IsMerging ps (multiples t qs) d rest (multiples t q')) (sym more_is) (both_gone j.full refl j.tied (sym j.sum ∙ none) behind)
+          joined j =
+              subst (λ d. IsMerging ps (multiples t qs) d rest (multiples t q')) (sym more_is)
+              (terms.both_met monomials int_group entry j.full refl j.tied (terms.sum_gone monomials int_group entry (done ++ front) j.head.mono (sym j.sum ∙ none)) behind)
 
           alone : Precedes back (times_term t b) c rest → IsMerging ps (multiples t qs) more rest (multiples t q')
           alone a = absurd (not_zero monomials int_group (t.coef *ℤ b.coef) (merging.back_canonical monomials int_group (entries (done ++ front)) (entries (times_term t b ∷ multiples t q')) behind.merging.right).0 (sym a.coef ∙ none))
@@ -228,7 +229,7 @@ pub accumulation_ended :
     IsListOf (plus (poly_of_terms ps) (times (poly_of_terms (t ∷ [])) (poly_of_terms qs))) (length ps + length qs) (size_of ps + nat_abs t.coef * size_of qs) all
 accumulation_ended {ps} {t} {qs} {done} {all} {p} {q} falling can empty all_is l =
     let products = multiple_is t qs (multiples t qs) can refl in
-    let end = second_ended falling products.falling (ap (λ w. length (multiples t w)) (no_length q empty)) all_is l.merging in
+    let end = sum_is falling products.falling (terms.second_ended monomials int_group entry products.falling (ap (multiples t) (no_length q empty)) all_is l.merging) in
     record {
       falling = end.falling;
       value = end.value ∙ ap (plus (poly_of_terms ps)) products.value;

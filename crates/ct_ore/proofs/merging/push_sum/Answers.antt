@@ -1,16 +1,20 @@
-use Rattle.std.proofs.Common.{◌≡◌, ◌++◌, ◌∷◌, [], rules, arith, refl, IsTrue}
+use Rattle.std.proofs.Common.{◌≡◌, ◌++◌, ◌∷◌, [], ◌∙◌, sym, rules, arith, IsTrue}
 use Rattle.std.proofs.lemmas.Grind.{common_steps}
 use Rattle.ct_algebra.specs.Polynomial.{polys}
-use Rattle.ct_ore.proofs.AddingSteps.{sum_kept, sum_left_out}
+use Rattle.ct_algebra.specs.Monomial.{monomials}
+use Rattle.ct_poly.proofs.Merging.{sum_kept, sum_gone}
+use Rattle.ct_ore.specs.declared.op.OpTerm.{OpTerm}
+use Rattle.ct_ore.proofs.AddingSteps.{entry}
 use Rattle.ct_ore.proofs.merging.push_sum.Goals as goal
 
 pub returns-in_ok-push : goal.returns-in_ok-push
 returns-in_ok-push c =
-    let pushed : c.push.new.self.items ≡ c.args.out.now.items ++ record { mono = c.args.a.now.mono; coef = c.in_ok-coef.coef } ∷ [] = search rules in
+    let t : OpTerm = record { mono = c.args.a.now.mono; coef = c.in_ok-coef.coef } in
+    let pushed : c.push.new.self.items ≡ c.args.out.now.items ++ t ∷ [] = search rules in
     let some : c.in_ok-coef.coef ≡ polys.zero → ⊥ = λ zero. let told : IsTrue c.is_zero.result = c.is_zero.ensures.1 zero in grind (arith, common_steps) in
-    sum_kept c.args.out.now.items c.push.new.self.items c.args.a.now.mono c.in_ok-coef.coef _ c.in_ok-coef.ensures.value some pushed
+    sum_kept monomials polys.group entry c.args.out.now.items t pushed c.in_ok-coef.ensures.value (λ zero. some (c.in_ok-coef.ensures.value ∙ zero))
 
 pub returns-else-not-is_zero : goal.returns-else-not-is_zero
 returns-else-not-is_zero c =
     let none : c.in_ok-coef.coef ≡ polys.zero = c.is_zero.ensures.0 (search rules) in
-    sum_left_out c.args.out.now.items c.args.out.now.items c.args.a.now.mono c.in_ok-coef.coef _ c.in_ok-coef.ensures.value none refl
+    sum_gone monomials polys.group entry c.args.out.now.items c.args.a.now.mono (sym c.in_ok-coef.ensures.value ∙ none)

@@ -1,5 +1,5 @@
 use Rattle.std.proofs.Common.{length, ◌+◌}
-use Rattle.ct_ore.specs.Lists.{IsMerging}
+use Rattle.ct_ore.proofs.MergeSteps.{IsMerging}
 use Rattle.ct_ore.proofs.sum.merge.Given as goal
 
 abbrev pub invariant-merging : goal.invariant-merging

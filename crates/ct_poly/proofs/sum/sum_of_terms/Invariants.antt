@@ -1,9 +1,12 @@
 use Rattle.std.proofs.Common.{length, ◌+◌}
+use Rattle.ct_algebra.specs.Monomial.{monomials}
+use Rattle.ct_algebra.specs.WholeNumbers.{int_group}
+use Rattle.ct_poly.specs.Terms.{entry}
 use Rattle.ct_poly.proofs.Merging.{IsMerging}
 use Rattle.ct_poly.proofs.sum.sum_of_terms.Given as goal
 
 abbrev pub invariant-merging : goal.invariant-merging
-invariant-merging l = IsMerging l.fn.ps l.fn.qs l.out.items l.p l.q
+invariant-merging l = IsMerging monomials int_group entry l.fn.ps l.fn.qs l.out.items l.p l.q
 
 abbrev pub decreases-merging : goal.decreases-merging
 decreases-merging l = length l.p + length l.q
