@@ -2,7 +2,7 @@
 pub use Rattle.ct_problem.proofs.Following.{Follows, Follows-past, Follows-same, Follows-then, Goes_on, Settled, fresh_line-settles, lexemes-append}
 pub use Rattle.ct_problem.proofs.Following.{used-taken}
 pub use Rattle.ct_problem.proofs.JoinedTexts.{joined, joined_nothing, joined_to_left, joined_to_right, nothing_joined, on_first, on_second, replaced}
-pub use Rattle.ct_problem.proofs.JoinedTexts.{to_nothing}
+pub use Rattle.ct_problem.proofs.JoinedTexts.{from_nothing, replaced_both, to_nothing}
 pub use Rattle.ct_problem.proofs.LexemeSteps.{after_first, sees-shown, sees_word-shown, shown, shown-symbol, shows_sign, shows_word}
 pub use Rattle.ct_problem.proofs.ShownSymbols.{same_word, shows_a_number, shows_a_sign, shows_a_word, spelling-shown, unequal_words}
 pub use Rattle.ct_problem.proofs.Slices.{slice_of-slice}

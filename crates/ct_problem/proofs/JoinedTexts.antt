@@ -39,3 +39,9 @@ on_second f h = record { front = h.front; back = h.back; parts = h.parts; first 
 
 pub replaced : {a b c : Texts} {ls : List Lexeme} (h : (a ▸ b) ls) → c h.back → (a ▸ c) ls
 replaced h second = record { front = h.front; back = h.back; parts = h.parts; first = h.first; second = second }
+
+pub replaced_both : {a b c d : Texts} {ls : List Lexeme} (h : (a ▸ b) ls) → c h.front → d h.back → (c ▸ d) ls
+replaced_both h first second = record { front = h.front; back = h.back; parts = h.parts; first = first; second = second }
+
+pub from_nothing : {a : Texts} {ls : List Lexeme} → a ls → (nothing ▸ a) ls
+from_nothing {ls} h = record { front = []; back = ls; parts = refl; first = refl; second = h }

@@ -33,7 +33,6 @@ pub mod SpelledLines
 pub mod SpelledLists
 pub mod SpelledNames
 pub mod SpelledLets
-pub mod SpelledDens
 pub mod SpelledEnds
 pub mod SpelledTexts
 pub mod SpelledProblems
@@ -52,13 +51,14 @@ pub mod TakenValues
 pub mod TakenNames
 pub mod TakenLets
 pub mod TakenProblemLines
-pub mod TakenDens
 pub mod TakenBodies
 pub mod TakenEnds
 pub mod TakenProblems
 pub mod Rules
+pub mod RuleChoices
 pub mod RuleLists
 pub mod LineRules
+pub mod DenRules
 pub mod ReportRules
 pub mod ReportTexts
 pub mod LexemeCounts

@@ -3,8 +3,9 @@
 --                          rest that F allows, where the first byte that begins no token stands at the place bad, if there is one.
 --                          K is what is known of the value beforehand
 --     reads and others     the steps that every rule is made of
+--     Split M N y ls       the same of two rules where the whole value doesn't tell that of the first
 use Rattle.ct_problem.proofs.Base.{◌≡◌, ℕ, Bool, true, false, List, [], ◌∷◌, ◌++◌, Option, Ok, refl, sym, ap, ◌∙◌, subst, append_assoc, append-nil}
-use Rattle.ct_problem.proofs.Base.{BadKind, Input, Outcome, Parser, ◌>>=◌, ◌>>◌, pure, line_end, dots, expect, expect_word, largest_norm, ◌≤◌}
+use Rattle.ct_problem.proofs.Base.{BadKind, Input, Outcome, Parser, ◌>>=◌, ◌>>◌, and_then, look, pure, line_end, dots, expect, expect_word, largest_norm, ◌≤◌}
 use Rattle.ct_problem.proofs.Base.{Lexeme, Word, Number, Sign, Dots, LineEnd, Texts, nothing, one, number, ◌▸◌}
 use Rattle.ct_problem.specs.Number as digits
 use Rattle.ct_problem.proofs.Frame.{Goes_on, Follows, Follows-same, Follows-then, joined, joined_to_left, joined_to_right, shown, Spelled, Spells}
@@ -37,11 +38,14 @@ Spelled-joined i k j s t = record {
   follows = Follows-then i k j s.follows t.follows;
 }
 
-Read-joined : {L M : Texts} (i k j : Input) → Read L i k → Read M k j → Read (L ▸ M) i j
+pub Read-joined : {L M : Texts} (i k j : Input) → Read L i k → Read M k j → Read (L ▸ M) i j
 Read-joined i k j r s = record {
   follows = Follows-then i k j r.follows s.follows;
   spelled = λ left. Spelled-joined i k j (r.spelled (goes_on_before k j s.follows left)) (s.spelled left);
 }
+
+pub Read-mapped : {L M : Texts} {i j : Input} → ((ls : List Lexeme) → L ls → M ls) → Read L i j → Read M i j
+Read-mapped h r = record { follows = r.follows; spelled = λ left. Spelled-mapped h (r.spelled left) }
 
 Read-nothing : (i : Input) → Read nothing i i
 Read-nothing i = record { follows = Follows-same i; spelled = λ _. record { used = []; parts = refl; spells = refl; follows = Follows-same i } }
@@ -147,3 +151,62 @@ module _ {bad : Option ℕ} where
 
   pub line_end_rule : Rule bad any line_end (λ _. one LineEnd) (IsFresh bad)
   line_end_rule = rule Goes-line_end (λ _. Takes-line_end bad)
+
+-- ---- rules that tell more than the value
+
+-- a value of the first rule, which that of the whole doesn't tell
+pub record Split {A B : Type 0} (M : A → Texts) (N : A → B → Texts) (y : B) (ls : List Lexeme) : Type 0 where
+  pub item : A
+  pub spelled : (M item ▸ N item y) ls
+
+-- this value, and no lexeme
+abbrev pub Made : {A : Type 0} → A → A → Texts
+Made x y ls = (x ≡ y) × nothing ls
+
+module _ {bad : Option ℕ} {A B : Type 0} where
+  pub binds : {p : Parser A} {f : A → Parser B} {M : A → Texts} {N : A → B → Texts} {F G : Texts} → Rule bad any p M G → ((x : A) → Rule bad any (f x) (N x) F)
+      → ((x : A) (y : B) (back rest : List Lexeme) → N x y back → F rest → G (back ++ rest)) → Rule bad any (p >>= f) (Split M N) F
+  binds {p} {f} {M} {N} first second between = record {
+    sound = λ i j y e.
+        let r = first_read p f i j y e in
+        let all = Read-joined i r.left j (first.sound i r.left r.value r.first).1 ((second r.value).sound r.left j y r.second).1 in
+        (tt, Read-mapped (λ ls h. record { item = r.value; spelled = h }) all);
+    whole = λ y known i used rest here e h after. Takes-bind bad f (first.whole h.item tt) ((second h.item).whole y tt) (between h.item y) i used rest here e h.spelled after;
+  }
+
+module _ {bad : Option ℕ} {A : Type 0} where
+  pub result : {F : Texts} (x : A) → Rule bad any (pure x) (Made x) F
+  result {F} x = record {
+    sound = λ i j y e.
+        let pairs : ◌≡◌ {A = A × Input} (x, i) (y, j) = cc in
+        (tt, Read-mapped (λ ls none. (ap (λ (r : A × Input). r.0) pairs, none)) (subst (Read nothing i) (ap (λ (r : A × Input). r.1) pairs) (Read-nothing i)));
+    whole = λ y known i used rest here e h after. Takes-value bad h.0 (Takes-pure bad x F) i used rest here e h.1 after;
+  }
+
+  -- a rule that does the same
+  pub same_rule : {K : A → Type 0} {p q : Parser A} {L : A → Texts} {F : Texts} → ((i : Input) → p i ≡ q i) → Rule bad K q L F → Rule bad K p L F
+  same_rule same r = record {
+    sound = λ i j x e. r.sound i j x (sym (same i) ∙ e);
+    whole = λ x known i used rest here e u after. let t = r.whole x known i used rest here e u after in record { left = t.left; reads = same i ∙ t.reads; shows = t.shows; follows = t.follows };
+  }
+
+  -- a rule that looks at the cursor first
+  pub looks : {Y : Type 0} {K : A → Type 0} {f : Y → Parser A} {L : A → Texts} {F : Texts} (g : Input → Y) → ((y : Y) → Rule bad K (f y) L F) → Rule bad K (look g >>= f) L F
+  looks g each = record {
+    sound = λ i j x e. (each (g i)).sound i j x e;
+    whole = λ x known i used rest here e u after. let t = (each (g i)).whole x known i used rest here e u after in record { left = t.left; reads = t.reads; shows = t.shows; follows = t.follows };
+  }
+
+  -- a test that has to fail comes first
+  pub unless : {p : Parser A} {L : A → Texts} {F : Texts} (test : Bool → Parser (Unit {0})) (b : Bool) → ((i j : Input) (x : A) → (test true >> p) i ≡ Ok (x, j) → ⊥) → ((i : Input) → test false i ≡ Ok (tt, i))
+      → Rule bad any p L F → Rule bad any (test b >> p) (λ x ls. (b ≡ false) × L x ls) F
+  unless {p} {L} test b fails passed r = record {
+    sound = λ i j x e. by b i j x e;
+    whole = λ x known i used rest here e u after.
+        let t = r.whole x known i used rest here e u.1 after in
+        record { left = t.left; reads = ap (λ (c : Bool). (test c >> p) i) u.0 ∙ ap (λ o. and_then o (λ _. p)) (passed i) ∙ t.reads; shows = t.shows; follows = t.follows };
+  }
+    where
+      by : (c : Bool) (i j : Input) (x : A) → (test c >> p) i ≡ Ok (x, j) → any x × Read (λ ls. (c ≡ false) × L x ls) i j
+      by true i j x e = absurd (fails i j x e)
+      by false i j x e = (tt, Read-mapped (λ ls h. (refl, h)) (r.sound i j x (sym (ap (λ o. and_then o (λ _. p)) (passed i)) ∙ e)).1)

@@ -9,7 +9,8 @@ use Rattle.ct_problem.proofs.Frame.{Goes-line_end, Goes-fresh_line, test_failed,
 use Rattle.ct_problem.specs.GrammarLets as lets
 use Rattle.ct_problem.specs.GrammarProblem as grammar
 use Rattle.ct_problem.specs.Lines.{no_more}
-use Rattle.ct_problem.proofs.SpelledDens.{Goes-den_lines}
+use Rattle.ct_problem.proofs.DenRules.{den_lines_rule}
+use Rattle.ct_problem.proofs.Rules.{goes}
 use Rattle.ct_problem.proofs.SpelledLets.{Spells-list_name, Goes-let_lines}
 use Rattle.ct_problem.proofs.SpelledLines.{Goes-header, Goes-past_test}
 use Rattle.ct_problem.proofs.SpelledLists.{Goes-value_lines}
@@ -106,7 +107,7 @@ pub record Before (p : Reading) (ls : List Lexeme) : Type 0 where
 pub Goes-body : (h : List Naming × List Definition) → Goes (Head h) (body h.0 h.1) Before
 unfolding body
 Goes-body h =
-    Goes-bind _ (Goes-generators names) (λ gens. Goes-bind _ (Goes-den_lines names) (λ dens.
+    Goes-bind _ (Goes-generators names) (λ gens. Goes-bind _ (goes (den_lines_rule None names)) (λ dens.
     Goes-bind _ (Goes-value_lines names (codes "target")) (λ targets.
     Goes-bind _ (Goes-range_line (codes "order") 8) (λ orders. Goes-bind _ (Goes-range_line (codes "degree") 12) (λ degrees. Goes-pure Before
     (record { variables = h.0; definitions = h.1; generators = gens; dens = dens; targets = targets; orders = orders; degrees = degrees }) (λ ls k. record {

@@ -6,7 +6,8 @@ use Rattle.ct_problem.specs.GrammarLets as lets
 use Rattle.ct_problem.specs.GrammarProblem as grammar
 use Rattle.ct_problem.proofs.LineStarts.{AfterLines, Leads, fresh_before, leads_join}
 use Rattle.ct_problem.proofs.LineStarts as starts
-use Rattle.ct_problem.proofs.TakenDens.{Takes-den_lines, leads_dens}
+use Rattle.ct_problem.proofs.DenRules.{den_lines_rule, leads_dens}
+use Rattle.ct_problem.proofs.Rules.{takes}
 use Rattle.ct_problem.proofs.TakenProblemLines.{Takes-generators, leads_generators, Takes-range_line, leads_range}
 use Rattle.ct_problem.proofs.TakenLets.{Takes-let_lines, leads_lets}
 use Rattle.ct_problem.proofs.TakenLines.{Takes-header}
@@ -79,7 +80,7 @@ module _ (bad : Option ℕ) where
     Takes-body : Takes bad (body p.variables p.definitions) p (Generators ▸ (Denominators ▸ (Targets ▸ (Orders ▸ Degrees)))) (AfterLines bad 8)
     unfolding body
     Takes-body =
-        Takes-bind bad _ (Takes-generators bad names p.generators) (Takes-bind bad _ (Takes-den_lines bad names p.dens)
+        Takes-bind bad _ (Takes-generators bad names p.generators) (Takes-bind bad _ (takes (den_lines_rule bad names) p.dens)
         (Takes-bind bad _ Takes-targets (Takes-bind bad _ (Takes-range_line bad starts.Order 7 8 (omega arith) (omega arith) p.orders)
         (Takes-last bad _ (Takes-range_line bad starts.Degree 8 12 (omega arith) (omega arith) p.degrees) (λ k. refl))
         leads_degrees) leads_orders) leads_targets) leads_behind_generators
