@@ -1,12 +1,14 @@
 -- Monomials with one exponent changed, times a name and lowered, and powers of commuting maps as each exponent says.
 -- Main lemmas: `symbol-with`, `lower-with`, and `power-is`, by which a power acts name after name.
 -- A monomial is the power of its first name times the rest, which is without it.
-use Rattle.std.proofs.Common.{◌≡◌, refl, ℕ, zero, suc, ◌+◌, ◌-◌, ◌<◌, Bool, true, false, cond, eqb, ltb, sym, ◌∙◌, ap, ap₂, arith, eqb-true, eq-eqb, lt-ltb, ltb-true, ltb-false, ◌≤◌}
+use Rattle.std.proofs.Common.{◌≡◌, refl, ℕ, zero, suc, ◌+◌, ◌-◌, ◌<◌, Bool, true, false, cond, eqb, ltb, sym, ◌∙◌, ap, ap₂, subst, arith, eqb-true, eq-eqb, lt-ltb, ltb-true, ltb-false, ◌≤◌}
 use Rattle.ct_algebra.specs.Monomial.{Mono, exp, mono, exp-mono, exp-·, exp-unit, same_mono, ◌·◌, unit}
-use Rattle.ct_algebra.specs.Names.{Name, x0, x1, x2, x3, x4, x5, place, symbol, exp-symbol, times_over, power, power_unit, power_symbol}
+use Rattle.ct_algebra.specs.Names.{Name, name_with, place, symbol, exp-symbol, times_over, power, power_unit, power_symbol}
 use Rattle.ct_algebra.specs.Derivative.{lower, exp-lower, plus_nat_is}
 use Rattle.ct_mono.specs.Exponents.{with_exponent}
 use Rattle.ct_mono.proofs.ExponentLaws.{exp-with_exponent}
+use Rattle.ct_poly.proofs.TermLists.{place-name_with}
+use Rattle.ct_ore.specs.AllNames.{number_of_names}
 
 -- ---- one exponent changed
 
@@ -121,17 +123,19 @@ module _ {V : Type 0} (D : Name → V → V) (commute : (i j : Name) (v : V) →
   power-from i m v =
       ap (λ w. power D w v) (sym (first_name i m)) ∙ power-over (exp m (place i)) i (from (suc (place i)) m) v
 
-  pub power-is :
-      (m : Mono) (v : V) →
-      power D m v ≡
-      times_over (exp m 0) (D x0) (times_over (exp m 1) (D x1) (times_over (exp m 2) (D x2)
-      (times_over (exp m 3) (D x3) (times_over (exp m 4) (D x4) (times_over (exp m 5) (D x5) v)))))
+  -- the symbols of the names below n, the last name first
+  abbrev pub power_below : ℕ → Mono → V → V
+  power_below zero m v = v
+  power_below (suc n) m v = power_below n m (times_over (exp m n) (D (name_with n)) v)
+
+  below-from : (n : ℕ) → n ≤ number_of_names → (m : Mono) (v : V) → power_below n m (power D (from n m) v) ≡ power D m v
+  below-from zero small m v = ap (λ w. power D w v) (from_all m)
+  below-from (suc n) small m v =
+      let here : place (name_with n) ≡ n = place-name_with n (omega arith) in
+      ap (power_below n m) (sym (subst (λ k. power D (from k m) v ≡ times_over (exp m k) (D (name_with n)) (power D (from (suc k) m) v)) here (power-from (name_with n) m v)))
+      ∙ below-from n (omega arith) m v
+
+  pub power-is : (m : Mono) (v : V) → power D m v ≡ power_below number_of_names m v
   power-is m v =
-      ap (λ w. power D w v) (sym (from_all m))
-      ∙ power-from x0 m v
-      ∙ ap (times_over (exp m 0) (D x0)) (power-from x1 m v
-      ∙ ap (times_over (exp m 1) (D x1)) (power-from x2 m v
-      ∙ ap (times_over (exp m 2) (D x2)) (power-from x3 m v
-      ∙ ap (times_over (exp m 3) (D x3)) (power-from x4 m v
-      ∙ ap (times_over (exp m 4) (D x4)) (power-from x5 m v
-      ∙ ap (times_over (exp m 5) (D x5)) (ap (λ w. power D w v) (from_none m) ∙ power_unit D v))))))
+      sym (below-from number_of_names (omega arith) m v)
+      ∙ ap (power_below number_of_names m) (ap (λ w. power D w v) (from_none m) ∙ power_unit D v)

@@ -1,10 +1,10 @@
 -- What symbols make of a list, before a polynomial: where there are none the list stays, and the product of a sorted list is
 -- that of the list. Main lemmas `raised_none`, `expanded_none`, `product_of_sorted`.
-use Rattle.std.proofs.Common.{◌≡◌, refl, ℕ, ◌+◌, ◌-◌, ◌*◌, pos, ◌*ℤ◌, List, [], ◌∷◌, ◌++◌, length, sym, ◌∙◌, ap, ap₂, arith, append-nil, mul-le-mul_left}
+use Rattle.std.proofs.Common.{◌≡◌, refl, ℕ, zero, suc, ◌+◌, ◌-◌, ◌*◌, pos, ◌*ℤ◌, List, [], ◌∷◌, ◌++◌, length, sym, ◌∙◌, ap, ap₂, arith, append-nil, mul-le-mul_left}
 use native.Mathlib.Nat.{pow-zero}
 use Rattle.std.proofs.lemmas.List.Concat.{flat_map-append}
 use Rattle.ct_algebra.specs.Monomial.{Mono, exp, total}
-use Rattle.ct_algebra.specs.Names.{Name, x0, x1, x2, x3, x4, x5}
+use Rattle.ct_algebra.specs.Names.{Name, name_with}
 use Rattle.ct_algebra.specs.Actions.{Action, Shift, Derive, Still}
 use Rattle.ct_algebra.specs.Polynomial.{Polynomial, norm_of}
 use Rattle.ct_algebra.specs.WholeNumbers.{times_one}
@@ -12,7 +12,8 @@ use Rattle.ct_algebra.specs.Operators.{multiple}
 use Rattle.ct_mono.specs.Exponents.{with_exponent}
 use Rattle.ct_ore.specs.declared.coefficient_term.CoefficientTerm.{CoefficientTerm}
 use Rattle.ct_ore.specs.CoefficientTerms.{size_of, sum_of_parts}
-use Rattle.ct_ore.specs.PairTerms.{listed, how_many, ways, symbols_left, moved_term, lowered_term, raised_term, raised, expanded, multiplied_by, product_terms}
+use Rattle.ct_ore.specs.PairTerms.{listed, how_many, ways, symbols_left, moved_term, lowered_term, raised_term, raised, expanded_below, expanded, multiplied_by, product_terms}
+use Rattle.ct_ore.specs.AllNames.{number_of_names, total_below}
 use Rattle.ct_ore.specs.Lists.{IsSum, IsSorted}
 use Rattle.ct_ore.proofs.ChangedExponents.{with_same}
 use Rattle.ct_ore.proofs.Multiples.{size_scaled, length_scaled}
@@ -61,15 +62,15 @@ raised_none t i k none ts = ap (λ n. raised t i n ts) none ∙ go ts
     go [] = refl
     go (u ∷ ts) = ap₂ ◌++◌ (one u) (go ts)
 
+expanded_below_none : (a : Name → Action) (m : Mono) (n : ℕ) → total_below n m ≡ 0 → (ts : List CoefficientTerm) → expanded_below a n m ts ≡ ts
+expanded_below_none a m zero none ts = refl
+expanded_below_none a m (suc n) none ts =
+    ap (expanded_below a n m) (raised_none (a (name_with n)) n (exp m n) (omega (arith, none)) ts)
+    ∙ expanded_below_none a m n (omega (arith, none)) ts
+
 pub expanded_none : (a : Name → Action) (m : Mono) → total m ≡ 0 → (ts : List CoefficientTerm) → expanded a m ts ≡ ts
 unfolding expanded
-expanded_none a m none ts =
-    raised_none (a x0) 0 (exp m 0) (omega (arith, six_total m, none)) _
-    ∙ raised_none (a x1) 1 (exp m 1) (omega (arith, six_total m, none)) _
-    ∙ raised_none (a x2) 2 (exp m 2) (omega (arith, six_total m, none)) _
-    ∙ raised_none (a x3) 3 (exp m 3) (omega (arith, six_total m, none)) _
-    ∙ raised_none (a x4) 4 (exp m 4) (omega (arith, six_total m, none)) _
-    ∙ raised_none (a x5) 5 (exp m 5) (omega (arith, six_total m, none)) ts
+expanded_none a m none ts = expanded_below_none a m number_of_names (omega (arith, six_total m, none)) ts
 
 -- ---- a polynomial before them
 

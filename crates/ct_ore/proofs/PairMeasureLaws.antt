@@ -5,7 +5,7 @@ use Rattle.std.specs.Prelude.{slice_get}
 use Rattle.std.proofs.lemmas.List.Sums.{sum_by-cons}
 use Rattle.std.proofs.lemmas.List.Sums.{get_or-le-sum_by}
 use Rattle.ct_algebra.specs.Monomial.{Mono, exp, total, sum_six}
-use Rattle.ct_algebra.specs.Names.{Name, x0, x1, x2, x3, x4, x5, place, name_with}
+use Rattle.ct_algebra.specs.Names.{Name, place, name_with}
 use Rattle.ct_algebra.specs.Actions.{Action, Still}
 use Rattle.ct_algebra.specs.Polynomial.{Polynomial, degree}
 use Rattle.ct_algebra.specs.Operators.{Operator}
@@ -15,7 +15,7 @@ use Rattle.ct_checked.specs.declared.fault.Kind.TheVariants.{Degree, Terms, Numb
 use Rattle.ct_poly.specs.Measures.{broken}
 use Rattle.ct_ore.specs.declared.coefficient_term.CoefficientTerm.{CoefficientTerm}
 use Rattle.ct_ore.specs.Naming.{Naming, actions_of}
-use Rattle.ct_ore.specs.PairWeights.{over_names}
+use Rattle.ct_ore.specs.AllNames.{number_of_names, over_below}
 use Rattle.ct_ore.specs.declared.op.OpTerm.{OpTerm}
 use Rattle.ct_ore.specs.Terms.{op_entries}
 use Rattle.ct_ore.specs.Lists.{IsPartsOf}
@@ -112,9 +112,9 @@ module _ (a : Name → Action) (p q : Operator) where
             broken b Number None ≡ product_overflow a p q
         by_norm within b over = sym (second ∙ ap (λ b. broken b Terms (broken (ltb largest_norm (product_norm a p q)) Number None)) within ∙ ap (λ b. broken b Number None) over)
 
-over_names_positive : (f : Name → ℕ) → ((i : Name) → 0 < f i) → 0 < over_names f
-over_names_positive f some =
-    mul-pos (mul-pos (mul-pos (mul-pos (mul-pos (some x0) (some x1)) (some x2)) (some x3)) (some x4)) (some x5)
+over_below_positive : (f : Name → ℕ) → ((i : Name) → 0 < f i) → (n : ℕ) → 0 < over_below n f
+over_below_positive f some zero = omega arith
+over_below_positive f some (suc n) = mul-pos (over_below_positive f some n) (some (name_with n))
 
 -- ---- what code reads of two operators
 
@@ -151,7 +151,7 @@ row_counts :
     (a : Name → Action) (s : CoefficientTerm) (qs : List CoefficientTerm) → length qs ≤ measure_of_row a false s qs
 row_counts a s [] = omega arith
 row_counts a s (t ∷ qs) =
-    let some : 0 < pair_measure a false s t = over_names_positive (λ i. name_measure false (a i) (exp s.symbols (place i)) (exp t.names (place i))) (λ i. how_many-positive (a i) (exp s.symbols (place i)) (exp t.names (place i))) in
+    let some : 0 < pair_measure a false s t = over_below_positive (λ i. name_measure false (a i) (exp s.symbols (place i)) (exp t.names (place i))) (λ i. how_many-positive (a i) (exp s.symbols (place i)) (exp t.names (place i))) number_of_names in
     omega (arith, row_counts a s qs, sum_by-cons (pair_measure a false s) t qs)
 
 pub pairs_count :

@@ -1,13 +1,13 @@
 -- The terms that a product makes are the product: main lemmas `product_terms-value`, and `product-value` of two operators.
 -- Name after name, symbols go before a list; a polynomial before it is a multiple. An operator is known from its single terms.
-use Rattle.std.proofs.Common.{◌≡◌, ℤ, ◌*ℤ◌, List, [], ◌∷◌, sym, ◌∙◌, ap, ap₂}
+use Rattle.std.proofs.Common.{◌≡◌, refl, ℕ, zero, suc, ◌≤◌, subst, arith, ℤ, ◌*ℤ◌, List, [], ◌∷◌, sym, ◌∙◌, ap, ap₂}
 use Rattle.ct_algebra.specs.Group.{Group, IsHom, hom_zero}
 use Rattle.ct_algebra.specs.Terms.{sum_over}
 use Rattle.ct_algebra.specs.Laws.Terms.{IsAdditive}
 use Rattle.ct_algebra.specs.Sums.{lift, lift-⊕, lift-single, same_hom}
 use Rattle.ct_algebra.specs.Monomial.{Mono, monomials, exp, ◌·◌}
 use Rattle.ct_algebra.specs.WholeNumbers.{int_group}
-use Rattle.ct_algebra.specs.Names.{Name, x0, x1, x2, x3, x4, x5, power, times_over}
+use Rattle.ct_algebra.specs.Names.{Name, name_with, place, power, times_over}
 use Rattle.ct_algebra.specs.Polynomial.{Polynomial, poly_set, times_is}
 use Rattle.ct_algebra.specs.Substitution.{P, term, term_is, term-sum, term-*}
 use Rattle.ct_algebra.specs.Actions.{Action}
@@ -16,8 +16,10 @@ use Rattle.ct_algebra.proofs.OperatorTerms.{sums_are, term_of-single}
 use Rattle.ct_algebra.proofs.ProductRule.{operator_module, multiple-term_of, symbols_commute, product_of-term_of}
 use Rattle.ct_ore.specs.declared.coefficient_term.CoefficientTerm.{CoefficientTerm}
 use Rattle.ct_ore.specs.CoefficientTerms.{sum_of_parts, coefficient_terms}
-use Rattle.ct_ore.specs.PairTerms.{expanded, multiplied, multiplied_by, product_terms}
-use Rattle.ct_ore.proofs.ChangedExponents.{power-is}
+use Rattle.ct_ore.specs.PairTerms.{raised, expanded_below, expanded, multiplied, multiplied_by, product_terms}
+use Rattle.ct_poly.proofs.TermLists.{place-name_with}
+use Rattle.ct_ore.specs.AllNames.{number_of_names}
+use Rattle.ct_ore.proofs.ChangedExponents.{power_below, power-is}
 use Rattle.ct_ore.proofs.CoefficientSums.{sum_of_parts-append, sum_of_coefficients}
 use Rattle.ct_ore.proofs.PairExpansion.{raised-value}
 use Rattle.ct_ore.proofs.PartSums.{value_of, sum_of_parts-none, sum_of_parts-cons}
@@ -28,17 +30,22 @@ G = operator_group
 module _ (a : Name → Action) where
   -- ---- symbols
 
+  expanded_below-value :
+      (n : ℕ) → n ≤ number_of_names → (m : Mono) (ts : List CoefficientTerm) →
+      sum_of_parts (expanded_below a n m ts) ≡ power_below (symbol_before a) (symbols_commute a) n m (sum_of_parts ts)
+  expanded_below-value zero small m ts = refl
+  expanded_below-value (suc n) small m ts =
+      let here : place (name_with n) ≡ n = place-name_with n (omega arith) in
+      expanded_below-value n (omega arith) m (raised (a (name_with n)) n (exp m n) ts)
+      ∙ ap (power_below (symbol_before a) (symbols_commute a) n m)
+      (subst (λ k. sum_of_parts (raised (a (name_with n)) k (exp m n) ts) ≡ times_over (exp m n) (symbol_before a (name_with n)) (sum_of_parts ts)) here
+      (raised-value a (name_with n) (exp m n) ts))
+
   pub expanded-value :
       (m : Mono) (ts : List CoefficientTerm) → sum_of_parts (expanded a m ts) ≡ power (symbol_before a) m (sum_of_parts ts)
   unfolding expanded
   expanded-value m ts =
-      raised-value a x0 (exp m 0) _
-      ∙ ap (times_over (exp m 0) (symbol_before a x0)) (raised-value a x1 (exp m 1) _
-      ∙ ap (times_over (exp m 1) (symbol_before a x1)) (raised-value a x2 (exp m 2) _
-      ∙ ap (times_over (exp m 2) (symbol_before a x2)) (raised-value a x3 (exp m 3) _
-      ∙ ap (times_over (exp m 3) (symbol_before a x3)) (raised-value a x4 (exp m 4) _
-      ∙ ap (times_over (exp m 4) (symbol_before a x4)) (raised-value a x5 (exp m 5) ts)))))
-      ∙ sym (power-is (symbol_before a) (symbols_commute a) m (sum_of_parts ts))
+      expanded_below-value number_of_names (omega arith) m ts ∙ sym (power-is (symbol_before a) (symbols_commute a) m (sum_of_parts ts))
 
   -- ---- polynomials
 

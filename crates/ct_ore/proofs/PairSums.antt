@@ -1,15 +1,17 @@
 -- The measure of all pairs, taken together for the terms of each coefficient of the left factor.
 -- Main lemmas `pairs_together`, by distributivity, and `no_symbols`: what the symbols 1 make of a list is the list.
-use Rattle.std.proofs.Common.{◌≡◌, refl, ℕ, ◌+◌, ◌*◌, Bool, true, false, ℤ, nat_abs, List, [], ◌∷◌, length, sum_by, sym, ◌∙◌, ap, arith}
+use Rattle.std.proofs.Common.{◌≡◌, refl, ℕ, zero, suc, ◌+◌, ◌*◌, ◌≤◌, Bool, true, false, ℤ, nat_abs, List, [], ◌∷◌, length, sum_by, sym, ◌∙◌, ap, ap₂, arith}
 use Rattle.std.proofs.lemmas.List.Sums.{sum_by-cons}
 use Rattle.ct_algebra.specs.Monomial.{Mono, exp, total}
-use Rattle.ct_algebra.specs.Names.{Name, x0, x1, x2, x3, x4, x5, place}
+use Rattle.ct_algebra.specs.Names.{Name, name_with, place}
 use Rattle.ct_algebra.specs.Polynomial.{Polynomial, norm}
 use Rattle.ct_algebra.specs.Actions.{Action, Shift, Derive, Still}
 use Rattle.ct_ore.specs.declared.coefficient_term.CoefficientTerm.{CoefficientTerm}
 use Rattle.ct_ore.specs.declared.op.OpTerm.{OpTerm}
 use Rattle.ct_ore.specs.Terms.{op_entries}
 use Rattle.ct_ore.specs.CoefficientTerms.{size_of, all_terms}
+use Rattle.ct_poly.proofs.TermLists.{place-name_with}
+use Rattle.ct_ore.specs.AllNames.{number_of_names, over_below, total_below}
 use Rattle.ct_ore.specs.PairWeights.{derivation_weight}
 use Rattle.ct_ore.specs.PairMeasures.{name_measure, names_measure, term_measure, symbols_measure, coefficient_measure, measure_of_row, measure_of_pairs}
 use Rattle.ct_ore.proofs.PairCounts.{sum_by-same, sum_by-scaled, scaled-sum, length-is}
@@ -81,11 +83,16 @@ name_alone w t k e none = ap (λ n. name_measure w t n e) none ∙ by w t
     by false Still = refl
 
 module _ (a : Name → Action) (m : Mono) (none : total m ≡ 0) where
+  names_below_alone :
+      (w : Bool) (l : Mono) (n : ℕ) → n ≤ number_of_names → total_below n m ≡ 0 →
+      over_below n (λ i. name_measure w (a i) (exp m (place i)) (exp l (place i))) ≡ 1
+  names_below_alone w l zero small absent = refl
+  names_below_alone w l (suc n) small absent =
+      let here : exp m (place (name_with n)) ≡ 0 = ap (exp m) (place-name_with n (omega arith)) ∙ omega (arith, absent) in
+      ap₂ ◌*◌ (names_below_alone w l n (omega arith) (omega (arith, absent))) (name_alone w (a (name_with n)) _ (exp l (place (name_with n))) here)
+
   names_alone : (w : Bool) (n : Mono) → names_measure a w m n ≡ 1
-  names_alone w n = λ i. one x0 (omega (arith, six_total m, none)) i * one x1 (omega (arith, six_total m, none)) i * one x2 (omega (arith, six_total m, none)) i * one x3 (omega (arith, six_total m, none)) i * one x4 (omega (arith, six_total m, none)) i * one x5 (omega (arith, six_total m, none)) i
-    where
-      one : (i : Name) → exp m (place i) ≡ 0 → name_measure w (a i) (exp m (place i)) (exp n (place i)) ≡ 1
-      one i absent = name_alone w (a i) (exp m (place i)) (exp n (place i)) absent
+  names_alone w n = names_below_alone w n number_of_names (omega arith) (omega (arith, six_total m, none))
 
   pub no_symbols-weight : (qs : List CoefficientTerm) → size_of qs ≡ symbols_measure a true m qs
   no_symbols-weight qs = sum_by-same _ _ (λ t. once (nat_abs t.number) (names_measure a true m t.names) (names_alone true t.names)) qs

@@ -1,10 +1,10 @@
 -- Totals and sizes on the way of a product: each step stays within the measures of the whole.
 -- Main lemmas `way_fits`, `can_expand`, `can_scale`, `can_multiply_parts`. Cited by the code that makes the terms.
-use Rattle.std.proofs.Common.{◌≡◌, ℕ, zero, suc, ◌+◌, ◌-◌, ◌*◌, ◌<◌, ◌≤◌, ℤ, pos, ◌*ℤ◌, nat_abs, List, [], ◌∷◌, ◌++◌, sym, ◌∙◌, ap, subst, arith, eq-or-lt_of_le, mul-le-mul_left, mul-pos, ◌⊎◌, inl, inr, lit<}
+use Rattle.std.proofs.Common.{◌≡◌, ℕ, zero, suc, ◌+◌, ◌-◌, ◌*◌, ◌<◌, ◌≤◌, ℤ, pos, ◌*ℤ◌, nat_abs, List, [], ◌∷◌, ◌++◌, sym, ◌∙◌, ap, subst, arith, eq-or-lt_of_le, mul-le-mul_left, mul-pos, ◌⊎◌, inl, inr}
 use Rattle.std.proofs.lemmas.List.Sums.{sum_by-append, sum_by_push}
 use Rattle.std.proofs.lemmas.Int.{unsigned_abs-mul}
 use Rattle.ct_algebra.specs.Monomial.{Mono, exp, total}
-use Rattle.ct_algebra.specs.Names.{Name, x0, x1, x2, x3, x4, x5}
+use Rattle.ct_algebra.specs.Names.{Name, name_with}
 use Rattle.ct_algebra.specs.Terms.{EachTerm, EachTerm-weaker}
 use Rattle.ct_algebra.specs.Actions.{Action, Shift, Derive, Still}
 use Rattle.ct_algebra.specs.Polynomial.{Polynomial, degree_greatest, norm, norm_of}
@@ -12,17 +12,18 @@ use Rattle.ct_checked.specs.Limits.{largest_degree, largest_norm}
 use Rattle.ct_mono.proofs.ExponentLaws.{total-with_exponent}
 use Rattle.ct_ore.specs.declared.coefficient_term.CoefficientTerm.{CoefficientTerm}
 use Rattle.ct_ore.specs.CoefficientTerms.{size_of}
-use Rattle.ct_ore.specs.PairTerms.{listed, how_many, ways, symbols_left, lowered_term, raised_term, raised, expanded, multiplied_by, product_terms}
+use Rattle.ct_ore.specs.PairTerms.{listed, how_many, ways, symbols_left, lowered_term, raised_term, raised, expanded_below, expanded, multiplied_by, product_terms}
 use Rattle.std.proofs.Common.{Option, Some, None}
 use Rattle.std.specs.Option.{unwrap_or}
-use Rattle.ct_ore.specs.Bounds.{IsCapped, Within, EachWithin, CanRaise, CanExpand, CanScale, HasRoom, CanMultiply}
+use Rattle.ct_ore.specs.AllNames.{number_of_names, total_below}
+use Rattle.ct_ore.specs.Bounds.{IsCapped, Within, EachWithin, CanRaise, CanExpandBelow, CanExpand, CanScale, HasRoom, CanMultiply}
 use Rattle.ct_ore.specs.PairMeasures.{HasNumbers}
 use Rattle.ct_ore.specs.Lists.{IsSorted}
 use Rattle.ct_ore.proofs.Expansion.{product_parts}
 use Rattle.ct_ore.proofs.Multiples.{each_parts}
 use Rattle.ct_ore.proofs.PairCounts.{scaled-sum}
 use Rattle.ct_ore.proofs.PairMeasureLaws.{six_total}
-use Rattle.ct_ore.proofs.ProductMeasures.{from5, from4, from3, from2, from1, EachIsWithin, each_is_smaller, size_of-multiplied_by}
+use Rattle.ct_ore.proofs.ProductMeasures.{expanded_below-larger, size_of-multiplied_by}
 use Rattle.ct_ore.proofs.WayPositive.{ways-positive}
 
 abbrev size : CoefficientTerm → ℕ
@@ -101,53 +102,45 @@ way_fits t i k u j can below =
 
 -- ---- a product of symbols, name after name
 
-module _ (a : Name → Action) (m : Mono) (ts : List CoefficientTerm) where
-  module _ (b d : ℕ) (h : EachWithin b d ts) where
-    within5 : EachWithin (b + exp m 5) d (from5 a m ts)
-    within5 = within-raised b d (a x5) 5 (exp m 5) ts (lit< tt) h
+pub total_below-is : (m : Mono) → total_below number_of_names m ≡ total m
+total_below-is m = omega (arith, six_total m)
 
-    within4 : EachWithin (b + exp m 5 + exp m 4) d (from4 a m ts)
-    within4 = within-raised (b + exp m 5) d (a x4) 4 (exp m 4) (from5 a m ts) (lit< tt) within5
+module _ (a : Name → Action) (m : Mono) where
+  within-expanded_below :
+      (b d n : ℕ) → n ≤ number_of_names → (ts : List CoefficientTerm) → EachWithin b d ts →
+      EachWithin (b + total_below n m) d (expanded_below a n m ts)
+  within-expanded_below b d zero small ts h = within-weaker b d (b + 0) d (omega arith) (omega arith) ts h
+  within-expanded_below b d (suc n) small ts h =
+      within-weaker (b + exp m n + total_below n m) d (b + total_below (suc n) m) d (omega arith) (omega arith) _
+      (within-expanded_below (b + exp m n) d n (omega arith) _ (within-raised b d (a (name_with n)) n (exp m n) ts (omega arith) h))
 
-    within3 : EachWithin (b + exp m 5 + exp m 4 + exp m 3) d (from3 a m ts)
-    within3 = within-raised (b + exp m 5 + exp m 4) d (a x3) 3 (exp m 3) (from4 a m ts) (lit< tt) within4
+  module _ {n : ℕ} {ts : List CoefficientTerm} (small : suc n ≤ number_of_names) (can : CanExpandBelow a (suc n) m ts) where
+    pub can_raise : CanRaise (a (name_with n)) n (exp m n) ts
+    can_raise = record {
+      order = can.order;
+      room = omega (arith, can.room);
+      each = can.each;
+      small = omega (arith, can.small, expanded_below-larger a m n (raised (a (name_with n)) n (exp m n) ts));
+    }
 
-    within2 : EachWithin (b + exp m 5 + exp m 4 + exp m 3 + exp m 2) d (from2 a m ts)
-    within2 = within-raised (b + exp m 5 + exp m 4 + exp m 3) d (a x2) 2 (exp m 2) (from3 a m ts) (lit< tt) within3
+    pub can_go_on : CanExpandBelow a n m (raised (a (name_with n)) n (exp m n) ts)
+    can_go_on = record {
+      order = can.order + exp m n;
+      room = omega (arith, can.room);
+      each = within-raised can.order largest_degree (a (name_with n)) n (exp m n) ts (omega (arith, small)) can.each;
+      small = can.small;
+    }
 
-    within1 : EachWithin (b + exp m 5 + exp m 4 + exp m 3 + exp m 2 + exp m 1) d (from1 a m ts)
-    within1 = within-raised (b + exp m 5 + exp m 4 + exp m 3 + exp m 2) d (a x1) 1 (exp m 1) (from2 a m ts) (lit< tt) within2
+  pub can_begin : {ts : List CoefficientTerm} → CanExpand a m ts → CanExpandBelow a number_of_names m ts
+  unfolding expanded
+  can_begin can = record { order = can.order; room = omega (arith, can.room, six_total m); each = can.each; small = can.small }
 
-    pub within-expanded : EachWithin (b + total m) d (expanded a m ts)
-    unfolding expanded
-    within-expanded =
-        within-weaker (b + exp m 5 + exp m 4 + exp m 3 + exp m 2 + exp m 1 + exp m 0) d (b + total m) d (omega (arith, six_total m)) (omega arith) _ (within-raised (b + exp m 5 + exp m 4 + exp m 3 + exp m 2 + exp m 1) d (a x0) 0 (exp m 0) (from1 a m ts) (lit< tt) within1)
-
-  module _ (can : CanExpand a m ts) where
-    abbrev b : ℕ
-    b = can.order
-
-    abbrev smaller : EachIsWithin a size_of m ts
-    smaller = each_is_smaller a m ts
-
-    pub can5 : CanRaise (a x5) 5 (exp m 5) ts
-    can5 = record { order = b; room = omega (arith, can.room, six_total m); each = can.each; small = omega (arith, can.small, smaller.after5) }
-
-    pub can4 : CanRaise (a x4) 4 (exp m 4) (from5 a m ts)
-    can4 = record { order = b + exp m 5; room = omega (arith, can.room, six_total m); each = within5 b largest_degree can.each; small = omega (arith, can.small, smaller.after4) }
-
-    pub can3 : CanRaise (a x3) 3 (exp m 3) (from4 a m ts)
-    can3 = record { order = b + exp m 5 + exp m 4; room = omega (arith, can.room, six_total m); each = within4 b largest_degree can.each; small = omega (arith, can.small, smaller.after3) }
-
-    pub can2 : CanRaise (a x2) 2 (exp m 2) (from3 a m ts)
-    can2 = record { order = b + exp m 5 + exp m 4 + exp m 3; room = omega (arith, can.room, six_total m); each = within3 b largest_degree can.each; small = omega (arith, can.small, smaller.after2) }
-
-    pub can1 : CanRaise (a x1) 1 (exp m 1) (from2 a m ts)
-    can1 = record { order = b + exp m 5 + exp m 4 + exp m 3 + exp m 2; room = omega (arith, can.room, six_total m); each = within2 b largest_degree can.each; small = omega (arith, can.small, smaller.after1) }
-
-    pub can0 : CanRaise (a x0) 0 (exp m 0) (from1 a m ts)
-    unfolding expanded
-    can0 = record { order = b + exp m 5 + exp m 4 + exp m 3 + exp m 2 + exp m 1; room = omega (arith, can.room, six_total m); each = within1 b largest_degree can.each; small = can.small }
+pub within-expanded :
+    (a : Name → Action) (m : Mono) (ts : List CoefficientTerm) (b d : ℕ) → EachWithin b d ts → EachWithin (b + total m) d (expanded a m ts)
+unfolding expanded
+within-expanded a m ts b d h =
+    subst (λ s. EachWithin (b + s) d (expanded_below a number_of_names m ts)) (total_below-is m)
+    (within-expanded_below a m b d number_of_names (omega arith) ts h)
 
 -- ---- one term of the left factor after the other
 

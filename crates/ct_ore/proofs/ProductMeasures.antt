@@ -1,147 +1,86 @@
 -- How many terms a product makes, and how large they are: main lemmas `product_count-is` and `product_norm-is`, by `count-pairs`
 -- and `norm-pairs`, which say that the code's lists of terms have the pairs of the operators.
 -- What is done for some of the names, or for one term of the left factor, is no longer and no larger than the whole.
-use Rattle.std.proofs.Common.{◌≡◌, refl, Bool, true, false, ℕ, suc, ◌+◌, ◌*◌, ◌≤◌, ℤ, ◌*ℤ◌, nat_abs, List, [], ◌∷◌, map, length, sum_by, sym, ◌∙◌, ap, ap₂, arith, lit<, mul-zero}
+use Rattle.std.proofs.Common.{◌≡◌, refl, Bool, true, false, ℕ, zero, suc, ◌<◌, ◌+◌, ◌*◌, ◌≤◌, ℤ, ◌*ℤ◌, nat_abs, List, [], ◌∷◌, map, length, sum_by, sym, ◌∙◌, ap, ap₂, arith, mul-zero}
 use Rattle.std.proofs.lemmas.Int.{unsigned_abs-mul}
 use Rattle.std.proofs.lemmas.List.Concat.{length-flat_map}
 use Rattle.std.proofs.lemmas.List.Sums.{sum_by-cons}
 use Rattle.ct_algebra.specs.Monomial.{Mono, exp, ◌·◌}
-use Rattle.ct_algebra.specs.Names.{Name, x0, x1, x2, x3, x4, x5, place}
+use Rattle.ct_algebra.specs.Names.{Name, place, place_small, name_with}
 use Rattle.ct_algebra.specs.Polynomial.{Polynomial}
 use Rattle.ct_algebra.specs.Actions.{Action}
 use Rattle.ct_algebra.specs.Operators.{Operator}
 use Rattle.ct_mono.specs.Exponents.{with_exponent}
-use Rattle.ct_mono.proofs.ExponentLaws.{exp-with_exponent}
+use Rattle.ct_mono.proofs.ExponentLaws.{exp-with_exponent_other}
+use Rattle.ct_poly.proofs.TermLists.{place-name_with}
+use Rattle.ct_ore.specs.AllNames.{number_of_names, over_below, over_names}
 use Rattle.ct_ore.specs.declared.coefficient_term.CoefficientTerm.{CoefficientTerm}
 use Rattle.ct_ore.specs.CoefficientTerms.{size_of, row_of, all_terms, coefficient_terms}
 use Rattle.ct_ore.specs.Measures.{over_terms, product_count, product_norm}
 use Rattle.ct_ore.specs.PairMeasures.{pair_measure, measure_of_row, measure_of_pairs}
-use Rattle.ct_ore.specs.PairWeights.{over_names, pair_count, pair_weight}
-use Rattle.ct_ore.specs.PairTerms.{raised, expanded, multiplied, multiplied_by, product_terms}
-use Rattle.ct_ore.proofs.PairCounts.{sum_by-same, sum_by-flat_map, sum_by-scaled, raised-count, raised-size, length-raised, size_of-raised, raised-larger}
+use Rattle.ct_ore.specs.PairWeights.{pair_count, pair_weight}
+use Rattle.ct_ore.specs.PairTerms.{raised, expanded_below, expanded, multiplied, multiplied_by, product_terms}
+use Rattle.ct_ore.proofs.PairCounts.{sum_by-same, sum_by-flat_map, sum_by-scaled, raised-count, raised-size, length-is, size_of-is, raised-larger}
 
--- ---- a product over the names, without those that change
+-- ---- symbols before a list
 
-module _ (g : Name → ℕ → ℕ) where
-  abbrev over0 : Mono → ℕ
-  over0 n = g x0 (exp n 0)
+-- a product over the names before one that changes
+kept :
+    (g : Name → ℕ → ℕ) (i e n : ℕ) → n ≤ i → i < number_of_names → (m : Mono) →
+    over_below n (λ j. g j (exp (with_exponent i e m) (place j))) ≡ over_below n (λ j. g j (exp m (place j)))
+kept g i e zero before small m = refl
+kept g i e (suc n) before small m =
+    ap₂ ◌*◌ (kept g i e n (omega arith) small m)
+    (ap (g (name_with n)) (exp-with_exponent_other i e m (place (name_with n)) (place_small (name_with n))
+    (λ same. absurd (omega (arith, same, place-name_with n (omega arith))))))
 
-  abbrev over1 : Mono → ℕ
-  over1 n = over0 n * g x1 (exp n 1)
+module _ (a : Name → Action) (m : Mono) where
+  abbrev counts : Name → ℕ → ℕ
+  counts i e = pair_count a i (exp m (place i)) e
 
-  abbrev over2 : Mono → ℕ
-  over2 n = over1 n * g x2 (exp n 2)
+  abbrev weights : Name → ℕ → ℕ
+  weights i e = pair_weight a i (exp m (place i)) e
 
-  abbrev over3 : Mono → ℕ
-  over3 n = over2 n * g x3 (exp n 3)
+  expanded_below-count :
+      (n : ℕ) → n ≤ number_of_names → (ts : List CoefficientTerm) →
+      length (expanded_below a n m ts) ≡ sum_by (λ t. over_below n (λ i. counts i (exp t.names (place i)))) ts
+  expanded_below-count zero within ts = length-is ts
+  expanded_below-count (suc n) within ts =
+      let here : place (name_with n) ≡ n = place-name_with n (omega arith) in
+      expanded_below-count n (omega arith) (raised (a (name_with n)) n (exp m n) ts)
+      ∙ raised-count (a (name_with n)) n (exp m n) (λ l. over_below n (λ i. counts i (exp l (place i))))
+      (λ e l. kept counts n e n (omega arith) (omega arith) l) ts
+      ∙ ap (λ k. sum_by (λ t. over_below n (λ i. counts i (exp t.names (place i))) * pair_count a (name_with n) (exp m k) (exp t.names k)) ts)
+      (sym here)
 
-  abbrev over4 : Mono → ℕ
-  over4 n = over3 n * g x4 (exp n 4)
-
-  kept1 : (e : ℕ) (n : Mono) → over0 (with_exponent 1 e n) ≡ over0 n
-  kept1 e n = ap (g x0) (exp-with_exponent 1 e n 0 (lit< tt))
-
-  kept2 : (e : ℕ) (n : Mono) → over1 (with_exponent 2 e n) ≡ over1 n
-  kept2 e n = ap₂ ◌*◌ (ap (g x0) (exp-with_exponent 2 e n 0 (lit< tt))) (ap (g x1) (exp-with_exponent 2 e n 1 (lit< tt)))
-
-  kept3 : (e : ℕ) (n : Mono) → over2 (with_exponent 3 e n) ≡ over2 n
-  kept3 e n =
-      ap₂ ◌*◌ (ap₂ ◌*◌ (ap (g x0) (exp-with_exponent 3 e n 0 (lit< tt))) (ap (g x1) (exp-with_exponent 3 e n 1 (lit< tt))))
-      (ap (g x2) (exp-with_exponent 3 e n 2 (lit< tt)))
-
-  kept4 : (e : ℕ) (n : Mono) → over3 (with_exponent 4 e n) ≡ over3 n
-  kept4 e n =
-      ap₂ ◌*◌ (ap₂ ◌*◌ (ap₂ ◌*◌ (ap (g x0) (exp-with_exponent 4 e n 0 (lit< tt))) (ap (g x1) (exp-with_exponent 4 e n 1 (lit< tt))))
-      (ap (g x2) (exp-with_exponent 4 e n 2 (lit< tt)))) (ap (g x3) (exp-with_exponent 4 e n 3 (lit< tt)))
-
-  kept5 : (e : ℕ) (n : Mono) → over4 (with_exponent 5 e n) ≡ over4 n
-  kept5 e n =
-      ap₂ ◌*◌ (ap₂ ◌*◌ (ap₂ ◌*◌ (ap₂ ◌*◌ (ap (g x0) (exp-with_exponent 5 e n 0 (lit< tt)))
-      (ap (g x1) (exp-with_exponent 5 e n 1 (lit< tt))))
-      (ap (g x2) (exp-with_exponent 5 e n 2 (lit< tt)))) (ap (g x3) (exp-with_exponent 5 e n 3 (lit< tt))))
-      (ap (g x4) (exp-with_exponent 5 e n 4 (lit< tt)))
-
-module _ (a : Name → Action) where
-  -- ---- symbols before a list
-
-  -- the list once the names from one on are done
-  abbrev pub from5 : Mono → List CoefficientTerm → List CoefficientTerm
-  from5 m ts = raised (a x5) 5 (exp m 5) ts
-
-  abbrev pub from4 : Mono → List CoefficientTerm → List CoefficientTerm
-  from4 m ts = raised (a x4) 4 (exp m 4) (from5 m ts)
-
-  abbrev pub from3 : Mono → List CoefficientTerm → List CoefficientTerm
-  from3 m ts = raised (a x3) 3 (exp m 3) (from4 m ts)
-
-  abbrev pub from2 : Mono → List CoefficientTerm → List CoefficientTerm
-  from2 m ts = raised (a x2) 2 (exp m 2) (from3 m ts)
-
-  abbrev pub from1 : Mono → List CoefficientTerm → List CoefficientTerm
-  from1 m ts = raised (a x1) 1 (exp m 1) (from2 m ts)
-
-  abbrev counts : Mono → Name → ℕ → ℕ
-  counts m i e = pair_count a i (exp m (place i)) e
-
-  abbrev weights : Mono → Name → ℕ → ℕ
-  weights m i e = pair_weight a i (exp m (place i)) e
+  expanded_below-size :
+      (n : ℕ) → n ≤ number_of_names → (ts : List CoefficientTerm) →
+      size_of (expanded_below a n m ts) ≡ sum_by (λ t. nat_abs t.number * over_below n (λ i. weights i (exp t.names (place i)))) ts
+  expanded_below-size zero within ts = size_of-is ts
+  expanded_below-size (suc n) within ts =
+      let here : place (name_with n) ≡ n = place-name_with n (omega arith) in
+      expanded_below-size n (omega arith) (raised (a (name_with n)) n (exp m n) ts)
+      ∙ raised-size (a (name_with n)) n (exp m n) (λ l. over_below n (λ i. weights i (exp l (place i))))
+      (λ e l. kept weights n e n (omega arith) (omega arith) l) ts
+      ∙ ap (λ k. sum_by (λ t. nat_abs t.number * (over_below n (λ i. weights i (exp t.names (place i))) * pair_weight a (name_with n) (exp m k) (exp t.names k))) ts)
+      (sym here)
 
   pub expanded-count :
-      (m : Mono) (ts : List CoefficientTerm) →
-      length (expanded a m ts) ≡ sum_by (λ t. over_names (λ i. counts m i (exp t.names (place i)))) ts
+      (ts : List CoefficientTerm) → length (expanded a m ts) ≡ sum_by (λ t. over_names (λ i. counts i (exp t.names (place i)))) ts
   unfolding expanded
-  expanded-count m ts =
-      length-raised (a x0) 0 (exp m 0) (from1 m ts)
-      ∙ raised-count (a x1) 1 (exp m 1) (over0 (counts m)) (kept1 (counts m)) (from2 m ts)
-      ∙ raised-count (a x2) 2 (exp m 2) (over1 (counts m)) (kept2 (counts m)) (from3 m ts)
-      ∙ raised-count (a x3) 3 (exp m 3) (over2 (counts m)) (kept3 (counts m)) (from4 m ts)
-      ∙ raised-count (a x4) 4 (exp m 4) (over3 (counts m)) (kept4 (counts m)) (from5 m ts)
-      ∙ raised-count (a x5) 5 (exp m 5) (over4 (counts m)) (kept5 (counts m)) ts
+  expanded-count ts = expanded_below-count number_of_names (omega arith) ts
 
   pub expanded-size :
-      (m : Mono) (ts : List CoefficientTerm) →
-      size_of (expanded a m ts) ≡ sum_by (λ t. nat_abs t.number * over_names (λ i. weights m i (exp t.names (place i)))) ts
+      (ts : List CoefficientTerm) →
+      size_of (expanded a m ts) ≡ sum_by (λ t. nat_abs t.number * over_names (λ i. weights i (exp t.names (place i)))) ts
   unfolding expanded
-  expanded-size m ts =
-      size_of-raised (a x0) 0 (exp m 0) (from1 m ts)
-      ∙ raised-size (a x1) 1 (exp m 1) (over0 (weights m)) (kept1 (weights m)) (from2 m ts)
-      ∙ raised-size (a x2) 2 (exp m 2) (over1 (weights m)) (kept2 (weights m)) (from3 m ts)
-      ∙ raised-size (a x3) 3 (exp m 3) (over2 (weights m)) (kept3 (weights m)) (from4 m ts)
-      ∙ raised-size (a x4) 4 (exp m 4) (over3 (weights m)) (kept4 (weights m)) (from5 m ts)
-      ∙ raised-size (a x5) 5 (exp m 5) (over4 (weights m)) (kept5 (weights m)) ts
+  expanded-size ts = expanded_below-size number_of_names (omega arith) ts
 
-  -- every list on the way is no longer and no larger than the last
-  pub record EachIsWithin (f : List CoefficientTerm → ℕ) (m : Mono) (ts : List CoefficientTerm) : Type 0 where
-    pub none : f ts ≤ f (expanded a m ts)
-    pub after5 : f (from5 m ts) ≤ f (expanded a m ts)
-    pub after4 : f (from4 m ts) ≤ f (expanded a m ts)
-    pub after3 : f (from3 m ts) ≤ f (expanded a m ts)
-    pub after2 : f (from2 m ts) ≤ f (expanded a m ts)
-    pub after1 : f (from1 m ts) ≤ f (expanded a m ts)
-
-  rising :
-      (f : List CoefficientTerm → ℕ) →
-      ((i : Name) (k : ℕ) (us : List CoefficientTerm) → f us ≤ f (raised (a i) (place i) k us)) →
-      (m : Mono) (ts : List CoefficientTerm) → EachIsWithin f m ts
-  unfolding expanded
-  rising f more m ts =
-      let five = more x5 (exp m 5) ts in
-      let four = more x4 (exp m 4) (from5 m ts) in
-      let three = more x3 (exp m 3) (from4 m ts) in
-      let two = more x2 (exp m 2) (from3 m ts) in
-      let one = more x1 (exp m 1) (from2 m ts) in
-      let last = more x0 (exp m 0) (from1 m ts) in
-      record {
-        none = omega arith;
-        after5 = omega arith;
-        after4 = omega arith;
-        after3 = omega arith;
-        after2 = omega arith;
-        after1 = omega arith;
-      }
-
-  pub each_is_smaller : (m : Mono) (ts : List CoefficientTerm) → EachIsWithin size_of m ts
-  each_is_smaller m ts = rising size_of (λ i k us. raised-larger (a i) (place i) k us) m ts
+  -- no name makes a list smaller
+  pub expanded_below-larger : (n : ℕ) (ts : List CoefficientTerm) → size_of ts ≤ size_of (expanded_below a n m ts)
+  expanded_below-larger zero ts = omega arith
+  expanded_below-larger (suc n) ts =
+      omega (arith, raised-larger (a (name_with n)) n (exp m n) ts, expanded_below-larger n (raised (a (name_with n)) n (exp m n) ts))
 
 -- ---- a polynomial before a list
 

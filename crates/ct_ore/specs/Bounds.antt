@@ -16,7 +16,8 @@ use Rattle.ct_algebra.specs.Actions.{Action}
 use Rattle.ct_checked.specs.Limits.{largest_degree, largest_norm}
 use Rattle.ct_ore.specs.declared.coefficient_term.CoefficientTerm.{CoefficientTerm}
 use Rattle.ct_ore.specs.CoefficientTerms.{size_of, IsWritten}
-use Rattle.ct_ore.specs.PairTerms.{raised, expanded, product_terms}
+use Rattle.ct_ore.specs.AllNames.{total_below}
+use Rattle.ct_ore.specs.PairTerms.{raised, expanded_below, expanded, product_terms}
 
 abbrev pub IsCapped : ℕ → Option ℕ → Type 0
 IsCapped v r = MatchOption r (largest_norm < v) (λ x. (x ≡ v) × (x ≤ largest_norm))
@@ -35,6 +36,13 @@ pub record CanRaise (t : Action) (i k : ℕ) (ts : List CoefficientTerm) : Type 
   pub room : order + k ≤ largest_degree
   pub each : EachWithin order largest_degree ts
   pub small : size_of (raised t i k ts) ≤ largest_norm
+
+-- what the symbols of the names below n ask
+pub record CanExpandBelow (a : Name → Action) (n : ℕ) (m : Mono) (ts : List CoefficientTerm) : Type 0 where
+  pub order : ℕ
+  pub room : order + total_below n m ≤ largest_degree
+  pub each : EachWithin order largest_degree ts
+  pub small : size_of (expanded_below a n m ts) ≤ largest_norm
 
 pub record CanExpand (a : Name → Action) (m : Mono) (ts : List CoefficientTerm) : Type 0 where
   pub order : ℕ

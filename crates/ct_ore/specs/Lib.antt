@@ -2,6 +2,7 @@ pub mod Naming
 pub mod Terms
 pub mod TermSums
 pub mod CoefficientTerms
+pub mod AllNames
 pub mod PairWeights
 pub mod Measures
 pub mod MeasureLaws

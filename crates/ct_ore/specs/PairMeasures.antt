@@ -10,7 +10,8 @@ use Rattle.ct_algebra.specs.Names.{Name, place}
 use Rattle.ct_algebra.specs.Polynomial.{Polynomial, norm}
 use Rattle.ct_algebra.specs.Actions.{Action, by_action}
 use Rattle.ct_ore.specs.declared.coefficient_term.CoefficientTerm.{CoefficientTerm}
-use Rattle.ct_ore.specs.PairWeights.{over_names, derivation_weight}
+use Rattle.ct_ore.specs.AllNames.{over_names}
+use Rattle.ct_ore.specs.PairWeights.{derivation_weight}
 use Rattle.ct_ore.specs.PairTerms.{how_many}
 use Rattle.ct_ore.specs.Measures.{count_of_pair, weight_of_pair}
 

@@ -9,11 +9,12 @@
 -- A shift makes (x + k)^e, a derivation the sum of Leibniz; a name without operator only keeps its symbols.
 use Rattle.std.specs.Prelude.{ℕ, zero, suc, ◌+◌, ◌-◌, ◌*◌, ◌^◌, min, cond, ltb, ℤ, pos, ◌*ℤ◌, List, [], ◌∷◌, ◌++◌, map, flat_map}
 use Rattle.ct_algebra.specs.Monomial.{Mono, exp, ◌·◌}
-use Rattle.ct_algebra.specs.Names.{Name, x0, x1, x2, x3, x4, x5}
+use Rattle.ct_algebra.specs.Names.{Name, name_with}
 use Rattle.ct_algebra.specs.Actions.{Action, by_action}
 use Rattle.ct_algebra.specs.Polynomial.{Polynomial}
 use Rattle.ct_mono.specs.Exponents.{with_exponent}
 use Rattle.ct_ore.specs.declared.coefficient_term.CoefficientTerm.{CoefficientTerm}
+use Rattle.ct_ore.specs.AllNames.{number_of_names}
 use Rattle.ct_ore.specs.PairWeights.{choose, falling_power}
 
 abbrev pub listed : {X : Type 0} → ℕ → (ℕ → X) → List X
@@ -62,9 +63,13 @@ abbrev pub multiplied_by : List (Mono × ℤ) → List CoefficientTerm → List 
 multiplied_by us ts = flat_map (λ u. multiplied u.0 u.1 ts) us
 
 module _ (a : Name → Action) where
+  -- the symbols of the names below n
+  abbrev pub expanded_below : ℕ → Mono → List CoefficientTerm → List CoefficientTerm
+  expanded_below zero m ts = ts
+  expanded_below (suc n) m ts = expanded_below n m (raised (a (name_with n)) n (exp m n) ts)
+
   unfoldable pub expanded : Mono → List CoefficientTerm → List CoefficientTerm
-  expanded m ts =
-      raised (a x0) 0 (exp m 0) (raised (a x1) 1 (exp m 1) (raised (a x2) 2 (exp m 2) (raised (a x3) 3 (exp m 3) (raised (a x4) 4 (exp m 4) (raised (a x5) 5 (exp m 5) ts)))))
+  expanded m ts = expanded_below number_of_names m ts
 
   abbrev pub product_terms : List (Mono × Polynomial) → List CoefficientTerm → List CoefficientTerm
   product_terms es ts = flat_map (λ e. multiplied_by e.1.terms (expanded e.0 ts)) es

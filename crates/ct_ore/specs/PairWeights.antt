@@ -7,7 +7,7 @@
 -- A shift makes (x + k)^e: e + 1 terms for k above 0, of weight (1 + k)^e. A derivation makes a term for each way of
 -- differentiating j times, by the rule of Leibniz. A name without operator makes the one term that there was.
 use Rattle.std.specs.Prelude.{ℕ, zero, suc, ◌+◌, ◌-◌, ◌*◌, ◌^◌, min, cond, ltb}
-use Rattle.ct_algebra.specs.Names.{Name, x0, x1, x2, x3, x4, x5}
+use Rattle.ct_algebra.specs.Names.{Name}
 use Rattle.ct_algebra.specs.Actions.{Action, by_action}
 
 abbrev pub falling_power : ℕ → ℕ → ℕ
@@ -26,10 +26,6 @@ ways_below (suc j) k e = ways_below j k e + choose k j * falling_power e j
 
 unfoldable pub derivation_weight : ℕ → ℕ → ℕ
 derivation_weight k e = ways_below (k + 1) k e
-
--- the product over the six names
-abbrev pub over_names : (Name → ℕ) → ℕ
-over_names f = f x0 * f x1 * f x2 * f x3 * f x4 * f x5
 
 module _ (a : Name → Action) where
   abbrev pub pair_count : Name → ℕ → ℕ → ℕ

@@ -5,6 +5,9 @@ ghost use Rattle.ct_ore.specs.Naming.{action_of, actions_of, naming_of, namings_
 
 use std::marker::Model;
 
+/// How many names an algebra can have.
+pub(crate) const NAMES: u8 = 6;
+
 /// What the symbol of a name does: x becomes x + 1, the derivation by x, or the name has no symbol.
 #[derive(Clone, Copy, Debug, PartialEq, Eq)]
 pub enum Action {

@@ -12,7 +12,7 @@ ghost use Rattle.ct_ore.specs.Bounds.{IsCapped};
 ghost use Rattle.ct_ore.specs.Lists.{IsPartsOf};
 ghost use Rattle.ct_ore.specs.PairMeasures.{name_measure, names_measure, term_measure, symbols_measure, coefficient_measure, measure_of_pairs};
 
-use crate::algebra::{Action, Algebra};
+use crate::algebra::{Action, Algebra, NAMES};
 use crate::coefficient_term::CoefficientTerm;
 use crate::coefficients::term_count;
 use crate::degrees::{degree_of, order_of, small_exponent};
@@ -112,12 +112,11 @@ fn capped(n: u128) -> Option<u128>
 fn measure_of_names(algebra: &Algebra, weigh: bool, m: &Monomial, n: &Monomial) -> Option<u128>
     ensures { IsCapped (names_measure (actions_of algebra.now) weigh m.now n.now) result }
 {
-    let one = measure_of_name(algebra, weigh, 0, m, n);
-    let two = times_name(one, algebra, weigh, 1, m, n);
-    let three = times_name(two, algebra, weigh, 2, m, n);
-    let four = times_name(three, algebra, weigh, 3, m, n);
-    let five = times_name(four, algebra, weigh, 4, m, n);
-    times_name(five, algebra, weigh, 5, m, n)
+    let mut product = Some(1);
+    for i in 0..NAMES {
+        product = times_name(product, algebra, weigh, i, m, n);
+    }
+    product
 }
 
 // A product that one name more is multiplied to.

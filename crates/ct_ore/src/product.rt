@@ -5,11 +5,12 @@ ghost use Rattle.ct_algebra.specs.Names.{name_with};
 ghost use Rattle.ct_checked.specs.Limits.{largest_norm};
 ghost use Rattle.ct_ore.specs.Naming.{actions_of, action_of};
 ghost use Rattle.ct_ore.specs.Terms.{op_entries};
-ghost use Rattle.ct_ore.specs.PairTerms.{raised_term, raised, expanded, product_terms};
-ghost use Rattle.ct_ore.specs.Bounds.{CanRaise, CanExpand, CanMultiply};
+ghost use Rattle.ct_ore.specs.PairTerms.{raised_term, raised, expanded_below, expanded, product_terms};
+ghost use Rattle.ct_ore.specs.AllNames.{number_of_names};
+ghost use Rattle.ct_ore.specs.Bounds.{CanRaise, CanExpandBelow, CanExpand, CanMultiply};
 ghost use Rattle.ct_ore.specs.Lists.{IsSum};
 
-use crate::algebra::{Action, Algebra};
+use crate::algebra::{Action, Algebra, NAMES};
 use crate::coefficient_term::CoefficientTerm;
 use crate::degrees::small_exponent;
 use crate::op::OpTerm;
@@ -74,13 +75,28 @@ fn expanded(
     requires { CanExpand (actions_of algebra.now) m.now ts.now }
     ensures { IfOk result (λ v. v.items ≡ expanded (actions_of algebra.now) m.now ts.now) }
 {
-    let none = Vec::from_slice(alloc, ts)?;
-    let five = raised_by(alloc, algebra, m, 5, none)?;
-    let four = raised_by(alloc, algebra, m, 4, five)?;
-    let three = raised_by(alloc, algebra, m, 3, four)?;
-    let two = raised_by(alloc, algebra, m, 2, three)?;
-    let one = raised_by(alloc, algebra, m, 1, two)?;
-    let all = raised_by(alloc, algebra, m, 0, one)?;
+    let copy = Vec::from_slice(alloc, ts)?;
+    let all = expanded_below(alloc, algebra, m, NAMES, copy)?;
+    Ok(all)
+}
+
+// What those of the first names make of them, the last one of these first.
+fn expanded_below(
+    alloc: Global,
+    algebra: &Algebra,
+    m: &Monomial,
+    count: u8,
+    ts: Vec<CoefficientTerm>,
+) -> Result<Vec<CoefficientTerm>, NoMemory>
+    requires known { count ≤ number_of_names }
+    requires can { CanExpandBelow (actions_of algebra.now) count m.now ts.items }
+    ensures { IfOk result (λ v. v.items ≡ expanded_below (actions_of algebra.now) count m.now ts.items) }
+{
+    if count == 0 {
+        return Ok(ts);
+    }
+    let made = raised_by(alloc, algebra, m, count - 1, ts)?;
+    let all = expanded_below(alloc, algebra, m, count - 1, made)?;
     Ok(all)
 }
 
