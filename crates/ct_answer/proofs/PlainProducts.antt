@@ -21,7 +21,7 @@ use Rattle.ct_ore.specs.Measures.{coefficient_degree, order_of, product_count, p
 use Rattle.ct_ore.specs.MeasureLaws.{FitsProduct}
 use Rattle.ct_ore.specs.PairMeasures.{pair_measure, measure_of_row, measure_of_pairs}
 use Rattle.ct_ore.specs.AllNames.{number_of_names, over_below, over_names}
-use Rattle.ct_ore.specs.PairWeights.{pair_count, pair_weight, derivation_weight, ways_below}
+use Rattle.ct_ore.specs.Kinds.{pair_count, pair_weight, derivation_weight, ways_below}
 use Rattle.ct_ore.proofs.OneTerm.{terms-term, some_term, coefficient_terms-one, coefficient_degree-one, order_of-one, total_unit}
 use Rattle.ct_ore.proofs.PairWeightLaws.{derivation_weight-min, power_of_one}
 use Rattle.ct_ore.proofs.ProductMeasures.{count-pairs, norm-pairs}

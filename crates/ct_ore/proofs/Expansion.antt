@@ -12,7 +12,8 @@ use Rattle.ct_algebra.specs.Operators.{multiple}
 use Rattle.ct_mono.specs.Exponents.{with_exponent}
 use Rattle.ct_ore.specs.declared.coefficient_term.CoefficientTerm.{CoefficientTerm}
 use Rattle.ct_ore.specs.CoefficientTerms.{size_of, sum_of_parts}
-use Rattle.ct_ore.specs.PairTerms.{listed, how_many, ways, symbols_left, moved_term, lowered_term, raised_term, raised, expanded_below, expanded, multiplied_by, product_terms}
+use Rattle.ct_ore.specs.PairTerms.{listed, moved_term, lowered_term, raised_term, raised, expanded_below, expanded, multiplied_by, product_terms}
+use Rattle.ct_ore.specs.Kinds.{how_many, ways, symbols_left}
 use Rattle.ct_ore.specs.AllNames.{number_of_names, total_below}
 use Rattle.ct_ore.specs.Lists.{IsSum, IsSorted}
 use Rattle.ct_ore.proofs.ChangedExponents.{with_same}

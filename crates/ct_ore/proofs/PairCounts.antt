@@ -10,8 +10,9 @@ use Rattle.ct_algebra.specs.Actions.{Action}
 use Rattle.ct_mono.specs.Exponents.{with_exponent}
 use Rattle.ct_ore.specs.declared.coefficient_term.CoefficientTerm.{CoefficientTerm}
 use Rattle.ct_ore.specs.CoefficientTerms.{size_of}
-use Rattle.ct_ore.specs.PairTerms.{listed, how_many, ways, lowered_term, raised_term, raised}
-use Rattle.ct_ore.proofs.PairWeightLaws.{ways_in_all, ways_in_all-is, weight_by, weight_by-positive}
+use Rattle.ct_ore.specs.PairTerms.{listed, lowered_term, raised_term, raised}
+use Rattle.ct_ore.specs.Kinds.{how_many, ways, weight}
+use Rattle.ct_ore.proofs.PairWeightLaws.{ways_in_all, ways_in_all-is, weight-positive}
 
 -- ---- sums over lists
 
@@ -75,7 +76,7 @@ module _ (t : Action) (i k : ℕ) (f : Mono → ℕ) (other : (e : ℕ) (m : Mon
   pub raised-size :
       (ts : List CoefficientTerm) →
       sum_by (λ u. nat_abs u.number * f u.names) (raised t i k ts) ≡
-      sum_by (λ u. nat_abs u.number * (f u.names * weight_by t k (exp u.names i))) ts
+      sum_by (λ u. nat_abs u.number * (f u.names * weight t k (exp u.names i))) ts
   raised-size ts =
       sum_by-flat_map (λ u. nat_abs u.number * f u.names) (raised_term t i k) ts ∙ sum_by-same _ _ each ts
     where
@@ -96,12 +97,12 @@ module _ (t : Action) (i k : ℕ) (f : Mono → ℕ) (other : (e : ℕ) (m : Mon
       each :
           (u : CoefficientTerm) →
           sum_by (λ v. nat_abs v.number * f v.names) (raised_term t i k u) ≡
-          nat_abs u.number * (f u.names * weight_by t k (exp u.names i))
+          nat_abs u.number * (f u.names * weight t k (exp u.names i))
       each u =
           sum_by-listed_ways (λ v. nat_abs v.number * f v.names) (nat_abs u.number * f u.names) t k (exp u.names i)
           (lowered_term t i k u) (lowered u) (how_many t k (exp u.names i))
           ∙ ap (λ n. (nat_abs u.number * f u.names) * n) (ways_in_all-is t k (exp u.names i))
-          ∙ turned_back (nat_abs u.number) (f u.names) (weight_by t k (exp u.names i))
+          ∙ turned_back (nat_abs u.number) (f u.names) (weight t k (exp u.names i))
 
 -- ---- lengths and sizes
 
@@ -124,10 +125,10 @@ module _ (t : Action) (i k : ℕ) (ts : List CoefficientTerm) where
       once : (n : ℕ) → 1 * n ≡ n
       once n = omega arith
 
-  pub size_of-raised : size_of (raised t i k ts) ≡ sum_by (λ u. nat_abs u.number * weight_by t k (exp u.names i)) ts
+  pub size_of-raised : size_of (raised t i k ts) ≡ sum_by (λ u. nat_abs u.number * weight t k (exp u.names i)) ts
   size_of-raised =
       size_of-is (raised t i k ts) ∙ raised-size t i k (λ m. 1) (λ e m. refl) ts
-      ∙ sum_by-same _ _ (λ u. once (nat_abs u.number) (weight_by t k (exp u.names i))) ts
+      ∙ sum_by-same _ _ (λ u. once (nat_abs u.number) (weight t k (exp u.names i))) ts
     where
       once : (x n : ℕ) → x * (1 * n) ≡ x * n
       once x n = omega arith
@@ -138,6 +139,6 @@ module _ (t : Action) (i k : ℕ) (ts : List CoefficientTerm) where
         arith,
         size_of-is ts,
         size_of-raised,
-        sum_by-le-sum_by (λ u. nat_abs u.number * 1) (λ u. nat_abs u.number * weight_by t k (exp u.names i)) ts
-            (λ u. mul-le-mul_left (nat_abs u.number) (weight_by-positive t k (exp u.names i))),
+        sum_by-le-sum_by (λ u. nat_abs u.number * 1) (λ u. nat_abs u.number * weight t k (exp u.names i)) ts
+            (λ u. mul-le-mul_left (nat_abs u.number) (weight-positive t k (exp u.names i))),
       )

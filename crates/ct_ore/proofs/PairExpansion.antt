@@ -17,8 +17,8 @@ use Rattle.ct_mono.specs.Exponents.{with_exponent}
 use Rattle.ct_mono.proofs.ExponentLaws.{exp-with_exponent_same}
 use Rattle.ct_ore.specs.declared.coefficient_term.CoefficientTerm.{CoefficientTerm}
 use Rattle.ct_ore.specs.CoefficientTerms.{sum_of_parts}
-use Rattle.ct_ore.specs.PairWeights.{choose, falling_power}
-use Rattle.ct_ore.specs.PairTerms.{how_many, raised_term, raised, lowered_term}
+use Rattle.ct_ore.specs.Kinds.{choose, falling_power, how_many}
+use Rattle.ct_ore.specs.PairTerms.{raised_term, raised, lowered_term}
 use Rattle.ct_ore.proofs.ChangedExponents.{with_same, symbol-with, lower-with}
 use Rattle.ct_ore.proofs.PairWeightLaws.{choose-past, shift_few, shift_ways-past, derived_ways-past}
 use Rattle.ct_ore.proofs.PartSums.{value_of, sum_of_parts-listed, sum_of_parts-each, number_step, sum_below-trimmed, pascal}

@@ -12,7 +12,7 @@ use Rattle.ct_ore.specs.Terms.{op_entries}
 use Rattle.ct_ore.specs.CoefficientTerms.{size_of, all_terms}
 use Rattle.ct_poly.proofs.TermLists.{place-name_with}
 use Rattle.ct_ore.specs.AllNames.{number_of_names, over_below, total_below}
-use Rattle.ct_ore.specs.PairWeights.{derivation_weight}
+use Rattle.ct_ore.specs.Kinds.{derivation_weight}
 use Rattle.ct_ore.specs.PairMeasures.{name_measure, names_measure, term_measure, symbols_measure, coefficient_measure, measure_of_row, measure_of_pairs}
 use Rattle.ct_ore.proofs.PairCounts.{sum_by-same, sum_by-scaled, scaled-sum, length-is}
 use Rattle.ct_ore.proofs.PairMeasureLaws.{six_total}

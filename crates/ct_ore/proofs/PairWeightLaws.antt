@@ -1,11 +1,10 @@
 -- Binomial numbers and falling powers: what the count and the weight of a pair are made of.
 -- Main lemmas: `ways-next` (from the number before one term to the next, as code goes), `ways_in_all-is` (all of them add
--- up to the weight), `derivation_weight-min`, `weight_by-positive` and `how_many-positive`. By induction over Pascal's rule.
+-- up to the weight), `derivation_weight-min`, `weight-positive` and `how_many-positive`. By induction over Pascal's rule.
 use Rattle.std.proofs.Common.{◌≡◌, refl, ℕ, zero, suc, ◌+◌, ◌-◌, ◌*◌, ◌^◌, ◌<◌, ◌≤◌, min, cond, Bool, true, false, sym, ◌∙◌, ap, ap₂, subst, arith, ltb, pow-suc, mul-zero, zero-mul, eq-or-lt_of_le, mul-pos, inl, inr, ◌⊎◌, lt-ltb}
 use native.Mathlib.Nat.{pow-zero}
 use Rattle.ct_algebra.specs.Actions.{Action, Shift, Derive, Still, by_action}
-use Rattle.ct_ore.specs.PairWeights.{choose, falling_power, ways_below, derivation_weight}
-use Rattle.ct_ore.specs.PairTerms.{how_many, ways}
+use Rattle.ct_ore.specs.Kinds.{choose, falling_power, ways_below, derivation_weight, how_many, ways, weight}
 
 -- ---- past the end
 
@@ -138,10 +137,7 @@ power_of_one zero = refl
 power_of_one (suc m) = pow-suc 1 m ∙ omega (arith, power_of_one m)
 
 -- what `pair_weight` says, by the action
-abbrev pub weight_by : Action → ℕ → ℕ → ℕ
-weight_by t k e = by_action t ((1 + k) ^ e) (derivation_weight k e) 1
-
-pub ways_in_all-is : (t : Action) (k e : ℕ) → ways_in_all t (how_many t k e) k e ≡ weight_by t k e
+pub ways_in_all-is : (t : Action) (k e : ℕ) → ways_in_all t (how_many t k e) k e ≡ weight t k e
 ways_in_all-is Shift zero e = sym (power_of_one e)
 ways_in_all-is Shift (suc k) e =
     let some : cond (ltb 0 (suc k)) (e + 1) 1 ≡ e + 1 = ap (λ b. cond b (e + 1) 1) (lt-ltb 0 (suc k) (omega arith)) in
@@ -185,13 +181,13 @@ ways_below-positive (suc n) k e =
     let before : 0 < ways_below (suc n) k e = ways_below-positive n k e in
     omega arith
 
-pub weight_by-positive : (t : Action) (k e : ℕ) → 0 < weight_by t k e
+pub weight-positive : (t : Action) (k e : ℕ) → 0 < weight t k e
 unfolding derivation_weight
-weight_by-positive Shift k e = power_positive (1 + k) e (omega arith)
-weight_by-positive Derive k e =
+weight-positive Shift k e = power_positive (1 + k) e (omega arith)
+weight-positive Derive k e =
     let one_more : k + 1 ≡ suc k = omega arith in
     subst (λ n. 0 < ways_below n k e) (sym one_more) (ways_below-positive k k e)
-weight_by-positive Still k e = omega arith
+weight-positive Still k e = omega arith
 
 pub how_many-positive : (t : Action) (k e : ℕ) → 0 < how_many t k e
 how_many-positive Shift k e = by (ltb 0 k)

@@ -12,7 +12,8 @@ use Rattle.ct_checked.specs.Limits.{largest_degree, largest_norm}
 use Rattle.ct_mono.proofs.ExponentLaws.{total-with_exponent}
 use Rattle.ct_ore.specs.declared.coefficient_term.CoefficientTerm.{CoefficientTerm}
 use Rattle.ct_ore.specs.CoefficientTerms.{size_of}
-use Rattle.ct_ore.specs.PairTerms.{listed, how_many, ways, symbols_left, lowered_term, raised_term, raised, expanded_below, expanded, multiplied_by, product_terms}
+use Rattle.ct_ore.specs.PairTerms.{listed, lowered_term, raised_term, raised, expanded_below, expanded, multiplied_by, product_terms}
+use Rattle.ct_ore.specs.Kinds.{how_many, ways, symbols_left}
 use Rattle.std.proofs.Common.{Option, Some, None}
 use Rattle.std.specs.Option.{unwrap_or}
 use Rattle.ct_ore.specs.AllNames.{number_of_names, total_below}

@@ -18,7 +18,7 @@ use Rattle.ct_ore.specs.declared.coefficient_term.CoefficientTerm.{CoefficientTe
 use Rattle.ct_ore.specs.CoefficientTerms.{size_of, row_of, all_terms, coefficient_terms}
 use Rattle.ct_ore.specs.Measures.{over_terms, product_count, product_norm}
 use Rattle.ct_ore.specs.PairMeasures.{pair_measure, measure_of_row, measure_of_pairs}
-use Rattle.ct_ore.specs.PairWeights.{pair_count, pair_weight}
+use Rattle.ct_ore.specs.Kinds.{pair_count, pair_weight}
 use Rattle.ct_ore.specs.PairTerms.{raised, expanded_below, expanded, multiplied, multiplied_by, product_terms}
 use Rattle.ct_ore.proofs.PairCounts.{sum_by-same, sum_by-flat_map, sum_by-scaled, raised-count, raised-size, length-is, size_of-is, raised-larger}
 

@@ -19,7 +19,7 @@ use Rattle.ct_algebra.specs.FreeOf.{IsWithout, IsFreeOf}
 use Rattle.ct_algebra.proofs.FreeOfLaws.{shift-free}
 use Rattle.ct_mono.specs.Exponents.{with_exponent}
 use Rattle.ct_mono.proofs.ExponentLaws.{exp-with_exponent_same}
-use Rattle.ct_ore.specs.PairWeights.{choose}
+use Rattle.ct_ore.specs.Kinds.{choose}
 use Rattle.ct_ore.proofs.ChangedExponents.{symbol-with}
 use Rattle.ct_ore.proofs.PairWeightLaws.{choose-past}
 use Rattle.ct_ore.proofs.PartSums.{number_step, pascal}

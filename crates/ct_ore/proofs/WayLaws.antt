@@ -3,7 +3,7 @@
 use Rattle.std.specs.Prelude.{◌≡◌, refl, ℕ, zero, suc, ◌+◌, ◌-◌, ◌*◌, ◌/◌, ◌%◌, ◌<◌, ◌≤◌, eqb, false, ◌⊎◌}
 use Rattle.std.proofs.Common.{◌∙◌, ap, arith, inl, inr}
 use Rattle.std.proofs.lemmas.Nat.{div-add-mod', div-mul-add, le-div}
-use Rattle.ct_ore.specs.PairWeights.{choose, falling_power, ways_below, derivation_weight}
+use Rattle.ct_ore.specs.Kinds.{choose, falling_power, ways_below, derivation_weight}
 use Rattle.ct_ore.proofs.PairWeightLaws.{choose-past}
 
 -- a product over a divisor, taken apart before anything is multiplied

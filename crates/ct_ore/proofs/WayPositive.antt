@@ -2,8 +2,7 @@
 use Rattle.std.proofs.Common.{ℕ, zero, suc, ◌+◌, ◌<◌, ◌≤◌, ltb, cond, Bool, true, false, sym, subst, arith, lit<, mul-pos}
 use Rattle.std.proofs.Math.Nat.{pow-zero}
 use Rattle.ct_algebra.specs.Actions.{Action, Shift, Derive, Still}
-use Rattle.ct_ore.specs.PairWeights.{choose, falling_power}
-use Rattle.ct_ore.specs.PairTerms.{how_many, ways}
+use Rattle.ct_ore.specs.Kinds.{choose, falling_power, how_many, ways}
 use Rattle.ct_ore.proofs.PairWeightLaws.{power_positive}
 
 choose-positive : (k j : ℕ) → j ≤ k → 0 < choose k j

@@ -1,9 +1,9 @@
+pub mod AllNames
 pub mod Naming
 pub mod Terms
 pub mod TermSums
 pub mod CoefficientTerms
-pub mod AllNames
-pub mod PairWeights
+pub mod Kinds
 pub mod Measures
 pub mod MeasureLaws
 pub mod Wholes

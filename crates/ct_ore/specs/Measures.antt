@@ -20,7 +20,7 @@ use Rattle.ct_checked.specs.declared.fault.Kind.{Kind}
 use Rattle.ct_checked.specs.declared.fault.Kind.TheVariants.{Degree, Terms, Number}
 use Rattle.ct_poly.specs.Measures.{broken}
 use Rattle.ct_ore.specs.AllNames.{over_names}
-use Rattle.ct_ore.specs.PairWeights.{pair_count, pair_weight}
+use Rattle.ct_ore.specs.Kinds.{pair_count, pair_weight}
 
 -- ---- measures of one operator
 

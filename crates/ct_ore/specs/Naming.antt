@@ -9,6 +9,7 @@
 use Rattle.std.specs.Prelude.{◌≡◌, ◌≢◌, ℕ, ◌+◌, ◌<◌, ◌≤◌, ◌↔◌, Bool, true, false, ◌&&◌, ◌||◌, leb, eqb, IsTrue, List, [], ◌∷◌, map, length, count_by, string_bytes, codes}
 use Rattle.ct_algebra.specs.Names.{Name, name_with}
 use Rattle.ct_algebra.specs.Actions as actions
+use Rattle.ct_ore.specs.AllNames.{number_of_names}
 use Rattle.ct_ore.specs.declared.algebra.Action.{Action}
 use Rattle.ct_ore.specs.declared.algebra.Action.TheVariants.{Shift, Derive, Still}
 use Rattle.ct_ore.specs.declared.algebra.NameInfo.{NameInfo}
@@ -97,7 +98,7 @@ TextsDiffer (n ∷ ns) = IsOtherText n.text ns × TextsDiffer ns
 
 pub record IsAlgebra (ns : List Naming) : Type 0 where
   pub some : 0 < length ns
-  pub few : length ns ≤ 6
+  pub few : length ns ≤ number_of_names
   pub each : EachIsNaming ns
   pub different : TextsDiffer ns
   pub few_operators : count_by has_operator ns ≤ 4

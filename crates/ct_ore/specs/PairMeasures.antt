@@ -4,19 +4,18 @@
 --     names_measure a w m n   of symbols m and names n;  term_measure a w m t  the same for a term
 --     symbols_measure a w m   of symbols m and all terms of a list;  coefficient_measure w c  of a coefficient by itself
 -- With w the weight is taken, and else the count.
-use Rattle.std.specs.Prelude.{ℕ, ◌+◌, ◌*◌, ◌^◌, ◌<◌, nat_abs, Bool, cond, List, [], ◌∷◌, length, sum_by}
+use Rattle.std.specs.Prelude.{ℕ, ◌*◌, ◌<◌, nat_abs, Bool, cond, List, [], ◌∷◌, length, sum_by}
 use Rattle.ct_algebra.specs.Monomial.{Mono, exp}
 use Rattle.ct_algebra.specs.Names.{Name, place}
 use Rattle.ct_algebra.specs.Polynomial.{Polynomial, norm}
-use Rattle.ct_algebra.specs.Actions.{Action, by_action}
+use Rattle.ct_algebra.specs.Actions.{Action}
 use Rattle.ct_ore.specs.declared.coefficient_term.CoefficientTerm.{CoefficientTerm}
 use Rattle.ct_ore.specs.AllNames.{over_names}
-use Rattle.ct_ore.specs.PairWeights.{derivation_weight}
-use Rattle.ct_ore.specs.PairTerms.{how_many}
+use Rattle.ct_ore.specs.Kinds.{how_many, weight}
 use Rattle.ct_ore.specs.Measures.{count_of_pair, weight_of_pair}
 
 abbrev pub name_measure : Bool → Action → ℕ → ℕ → ℕ
-name_measure w t k e = cond w (by_action t ((1 + k) ^ e) (derivation_weight k e) 1) (how_many t k e)
+name_measure w t k e = cond w (weight t k e) (how_many t k e)
 
 abbrev pub HasNumbers : List CoefficientTerm → Type 0
 HasNumbers [] = Unit {0}

@@ -1,36 +1,25 @@
 -- The coefficient terms that products make, before any are gathered.
 --     listed n f             f 0 .. f (n - 1)
---     how_many t k e         how many terms k symbols of a name with the action t make of its power e
---     ways t k e j           the number before the one that lowers this power by j
 --     raised t i k ts        the terms that k symbols of the name with the place i make of each term of ts
 --     expanded a m ts        the same for a product of symbols m, name after name, the last name first
 --     times_term n x t       the number x and the names n times t;  multiplied n x ts  times each term of ts
 --     product_terms a es ts  the terms of coefficients es times what their symbols make of ts
--- A shift makes (x + k)^e, a derivation the sum of Leibniz; a name without operator only keeps its symbols.
-use Rattle.std.specs.Prelude.{ℕ, zero, suc, ◌+◌, ◌-◌, ◌*◌, ◌^◌, min, cond, ltb, ℤ, pos, ◌*ℤ◌, List, [], ◌∷◌, ◌++◌, map, flat_map}
+-- What symbols make of a power is said kind by kind in Kinds.
+use Rattle.std.specs.Prelude.{ℕ, zero, suc, ◌+◌, ◌-◌, ℤ, pos, ◌*ℤ◌, List, [], ◌∷◌, ◌++◌, map, flat_map}
 use Rattle.ct_algebra.specs.Monomial.{Mono, exp, ◌·◌}
 use Rattle.ct_algebra.specs.Names.{Name, name_with}
-use Rattle.ct_algebra.specs.Actions.{Action, by_action}
+use Rattle.ct_algebra.specs.Actions.{Action}
 use Rattle.ct_algebra.specs.Polynomial.{Polynomial}
 use Rattle.ct_mono.specs.Exponents.{with_exponent}
 use Rattle.ct_ore.specs.declared.coefficient_term.CoefficientTerm.{CoefficientTerm}
 use Rattle.ct_ore.specs.AllNames.{number_of_names}
-use Rattle.ct_ore.specs.PairWeights.{choose, falling_power}
+use Rattle.ct_ore.specs.Kinds.{how_many, ways, symbols_left}
 
 abbrev pub listed : {X : Type 0} → ℕ → (ℕ → X) → List X
 listed zero f = []
 listed (suc n) f = listed n f ++ f n ∷ []
 
 -- ---- what symbols of one name make of a term
-
-abbrev pub how_many : Action → ℕ → ℕ → ℕ
-how_many t k e = by_action t (cond (ltb 0 k) (e + 1) 1) (min k e + 1) 1
-
-abbrev pub ways : Action → ℕ → ℕ → ℕ → ℕ
-ways t k e j = by_action t (choose e j * k ^ j) (choose k j * falling_power e j) 1
-
-abbrev pub symbols_left : Action → ℕ → ℕ → ℕ
-symbols_left t k j = by_action t k (k - j) k
 
 -- a term with the power e of a name, s more of its symbols, and its number taken w times
 abbrev pub moved_term : ℕ → ℕ → ℕ → ℕ → CoefficientTerm → CoefficientTerm

@@ -1,6 +1,7 @@
 // Algebras: the names, what their symbols do, and what they are for.
 ghost use Rattle.std.specs.Prelude.{◌≡◌, ◌<◌, ◌≤◌, length, Some, slice_get};
 ghost use Rattle.ct_algebra.specs.Names.{name_with};
+ghost use Rattle.ct_ore.specs.AllNames.{number_of_names};
 ghost use Rattle.ct_ore.specs.Naming.{action_of, actions_of, naming_of, namings_of, IsAlgebra};
 
 use std::marker::Model;
@@ -71,14 +72,14 @@ impl Algebra {
     pub fn infos(&self) -> &[NameInfo]
         ensures names { namings_of result.now ≡ self.now }
         ensures algebra { IsAlgebra self.now }
-        ensures few { length result.now ≤ 6 }
+        ensures few { length result.now ≤ number_of_names }
     {
         self.names.as_slice()
     }
 
     /// What the symbol of a name does; a name past the list has none.
     pub(crate) fn action(&self, i: u8) -> Action
-        requires { i < 6 }
+        requires { i < number_of_names }
         ensures { action_of result ≡ actions_of self.now (name_with i) }
     {
         if i < self.count() {

@@ -3,6 +3,7 @@ ghost use Rattle.std.specs.Prelude.{◌≡◌, ◌<◌, ◌≤◌, map};
 ghost use Rattle.ct_algebra.specs.Monomial.{exp, total};
 ghost use Rattle.ct_algebra.specs.Polynomial.{degree};
 ghost use Rattle.ct_checked.specs.Limits.{largest_degree};
+ghost use Rattle.ct_ore.specs.AllNames.{number_of_names};
 ghost use Rattle.ct_ore.specs.Terms.{op_entries};
 ghost use Rattle.ct_ore.specs.Measures.{greatest};
 
@@ -12,7 +13,7 @@ use ct_poly::Poly;
 
 /// An exponent, which is no larger than the total.
 pub fn small_exponent(m: &Monomial, i: u8) -> u16
-    requires { i < 6 }
+    requires { i < number_of_names }
     ensures value { result ≡ exp m.now i }
     ensures within { result ≤ largest_degree }
 {

@@ -4,6 +4,7 @@ ghost use Rattle.ct_algebra.specs.Monomial.{exp};
 ghost use Rattle.ct_algebra.specs.Names.{name_with};
 ghost use Rattle.ct_algebra.specs.Operators.{Operator};
 ghost use Rattle.ct_checked.specs.Limits.{most_terms, largest_norm};
+ghost use Rattle.ct_ore.specs.AllNames.{number_of_names};
 ghost use Rattle.ct_ore.specs.Naming.{actions_of};
 ghost use Rattle.ct_ore.specs.Terms.{op_entries};
 ghost use Rattle.ct_ore.specs.CoefficientTerms.{size_of, all_terms};
@@ -12,13 +13,13 @@ ghost use Rattle.ct_ore.specs.Bounds.{IsCapped};
 ghost use Rattle.ct_ore.specs.Lists.{IsPartsOf};
 ghost use Rattle.ct_ore.specs.PairMeasures.{name_measure, names_measure, term_measure, symbols_measure, coefficient_measure, measure_of_pairs};
 
-use crate::algebra::{Action, Algebra, NAMES};
+use crate::algebra::{Algebra, NAMES};
 use crate::coefficient_term::CoefficientTerm;
 use crate::coefficients::term_count;
 use crate::degrees::{degree_of, order_of, small_exponent};
 use crate::op::OpTerm;
 use crate::sum::size_of_parts;
-use crate::ways::{capped_product, capped_sum, derivation_weight, how_many, shift_weight};
+use crate::ways::{capped_product, capped_sum, how_many, weight};
 use ct_mono::{Kind, LARGEST_DEGREE, LARGEST_NORM, MOST_TERMS, Monomial};
 use ct_poly::Poly;
 
@@ -128,7 +129,7 @@ fn times_name(
     m: &Monomial,
     n: &Monomial,
 ) -> Option<u128>
-    requires { i < 6 }
+    requires { i < number_of_names }
     ensures { (v : ℕ) → IsCapped v product → IsCapped (v * name_measure weigh (actions_of algebra.now (name_with i)) (exp m.now i) (exp n.now i)) result }
 {
     if m.exp(i) == 0 {
@@ -145,7 +146,7 @@ fn measure_of_name(
     m: &Monomial,
     n: &Monomial,
 ) -> Option<u128>
-    requires { i < 6 }
+    requires { i < number_of_names }
     ensures { IsCapped (name_measure weigh (actions_of algebra.now (name_with i)) (exp m.now i) (exp n.now i)) result }
 {
     let action = algebra.action(i);
@@ -154,11 +155,7 @@ fn measure_of_name(
     if !weigh {
         return Some(u128::from(how_many(action, k, e)));
     }
-    match action {
-        Action::Shift => shift_weight(k, e),
-        Action::Derive => derivation_weight(k, e),
-        Action::Still => Some(1),
-    }
+    weight(action, k, e)
 }
 
 /// The first rule that the product of two operators breaks; their terms and the coefficient terms of the right one are given.

@@ -6,6 +6,7 @@ ghost use Rattle.ct_algebra.specs.Polynomial.{polys};
 ghost use Rattle.ct_algebra.specs.Operators.{no_operator, term_of};
 ghost use Rattle.ct_checked.specs.Checked.{Answers};
 ghost use Rattle.ct_checked.specs.Limits.{most_terms, largest_norm};
+ghost use Rattle.ct_ore.specs.AllNames.{number_of_names};
 ghost use Rattle.ct_ore.specs.Terms.{op_entries, operator_of_terms, IsOperator};
 ghost use Rattle.ct_ore.specs.CoefficientTerms.{sum_of_parts};
 ghost use Rattle.ct_ore.specs.Lists.{Fits, IsPartsOf};
@@ -87,7 +88,7 @@ impl Op {
 
     /// The symbol of a name.
     pub fn symbol(alloc: Global, i: u8) -> Result<Op, NoMemory>
-        requires { i < 6 }
+        requires { i < number_of_names }
         ensures value { IfOk result (λ r. r ≡ term_of (symbol (name_with i)) polys.one) }
     {
         let one = Poly::constant(alloc, 1)?;

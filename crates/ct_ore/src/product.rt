@@ -108,7 +108,7 @@ fn raised_by(
     i: u8,
     ts: Vec<CoefficientTerm>,
 ) -> Result<Vec<CoefficientTerm>, NoMemory>
-    requires known { i < 6 }
+    requires known { i < number_of_names }
     requires can { CanRaise (actions_of algebra.now (name_with i)) i (exp m.now i) ts.items }
     ensures { IfOk result (λ v. v.items ≡ raised (actions_of algebra.now (name_with i)) i (exp m.now i) ts.items) }
 {
@@ -129,7 +129,7 @@ fn raised(
     k: u16,
     ts: &[CoefficientTerm],
 ) -> Result<Vec<CoefficientTerm>, NoMemory>
-    requires known { i < 6 }
+    requires known { i < number_of_names }
     requires can { CanRaise (action_of action) i k ts.now }
     ensures { IfOk result (λ v. v.items ≡ raised (action_of action) i k ts.now) }
 {
@@ -150,7 +150,7 @@ fn append_raised(
     k: u16,
     t: &CoefficientTerm,
 ) -> Result<(), NoMemory>
-    requires known { i < 6 }
+    requires known { i < number_of_names }
     requires can { CanRaise (action_of action) i k (t.now ∷ []) }
     ensures { IfOk result (λ _. out.new.items ≡ out.old.items ++ raised_term (action_of action) i k t.now) }
 {

@@ -1,9 +1,9 @@
-// How many terms the symbols of a name make of a power of the name, and which numbers stand before them.
+// What the symbols of a name make of a power of the name, for each kind of operator: how many terms, which numbers stand
+// before them, and what these add up to.
 ghost use Rattle.std.specs.Prelude.{◌≡◌, ◌+◌, ◌*◌, ◌^◌, ◌<◌, ◌≤◌, ℕ, eqb};
 ghost use Rattle.ct_checked.specs.Limits.{largest_degree, largest_norm};
 ghost use Rattle.ct_ore.specs.Naming.{action_of};
-ghost use Rattle.ct_ore.specs.PairTerms.{how_many, ways, symbols_left};
-ghost use Rattle.ct_ore.specs.PairWeights.{derivation_weight};
+ghost use Rattle.ct_ore.specs.Kinds.{derivation_weight, how_many, ways, symbols_left, weight};
 ghost use Rattle.ct_ore.specs.Bounds.{IsCapped};
 
 use crate::algebra::Action;
@@ -108,8 +108,21 @@ fn positive_product(m: Option<u128>, n: Option<u128>) -> Option<u128>
     }
 }
 
-/// The weight of the shift by k of the power e.
-pub fn shift_weight(k: u16, e: u16) -> Option<u128>
+/// The weight of what k symbols make of the power e.
+pub fn weight(action: Action, k: u16, e: u16) -> Option<u128>
+    requires powers { e ≤ largest_degree }
+    requires symbols { k ≤ largest_degree }
+    ensures { IsCapped (weight (action_of action) k e) result }
+{
+    match action {
+        Action::Shift => shift_weight(k, e),
+        Action::Derive => derivation_weight(k, e),
+        Action::Still => Some(1),
+    }
+}
+
+// The weight of the shift by k of the power e.
+fn shift_weight(k: u16, e: u16) -> Option<u128>
     ensures { IsCapped ((1 + k) ^ e) result }
 {
     let mut weight = Some(1);
@@ -123,8 +136,8 @@ pub fn shift_weight(k: u16, e: u16) -> Option<u128>
     weight
 }
 
-/// The weight of k derivations of the power e.
-pub fn derivation_weight(k: u16, e: u16) -> Option<u128>
+// The weight of k derivations of the power e.
+fn derivation_weight(k: u16, e: u16) -> Option<u128>
     requires powers { e ≤ largest_degree }
     requires symbols { k ≤ largest_degree }
     ensures { IsCapped (derivation_weight k e) result }

@@ -6,7 +6,8 @@ use Rattle.ct_checked.specs.Limits.{largest_norm}
 use Rattle.ct_mono.specs.Exponents.{with_exponent}
 use Rattle.ct_ore.specs.declared.coefficient_term.CoefficientTerm.{CoefficientTerm}
 use Rattle.ct_ore.specs.Naming.{action_of}
-use Rattle.ct_ore.specs.PairTerms.{listed, lowered_term, how_many, ways, symbols_left}
+use Rattle.ct_ore.specs.PairTerms.{listed, lowered_term}
+use Rattle.ct_ore.specs.Kinds.{how_many, ways, symbols_left}
 use Rattle.ct_ore.proofs.ProductBounds.{way_fits, capped_value}
 use Rattle.ct_ore.proofs.product.append_raised.Goals as goal
 

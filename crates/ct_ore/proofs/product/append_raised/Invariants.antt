@@ -1,6 +1,7 @@
 use Rattle.std.proofs.Common.{◌≡◌, ◌++◌, ◌<◌}
 use Rattle.ct_ore.specs.Naming.{action_of}
-use Rattle.ct_ore.specs.PairTerms.{listed, lowered_term, how_many, ways}
+use Rattle.ct_ore.specs.PairTerms.{listed, lowered_term}
+use Rattle.ct_ore.specs.Kinds.{how_many, ways}
 use Rattle.ct_ore.proofs.product.append_raised.Given as goal
 
 abbrev pub invariant-loop-j : goal.invariant-loop-j

@@ -1,7 +1,7 @@
 use Rattle.std.proofs.Common.{◌≡◌, ◌≤◌, ◌*◌}
 use Rattle.ct_checked.specs.Limits.{largest_norm}
 use Rattle.ct_ore.specs.Bounds.{IsCapped}
-use Rattle.ct_ore.specs.PairWeights.{choose, falling_power, ways_below}
+use Rattle.ct_ore.specs.Kinds.{choose, falling_power, ways_below}
 use Rattle.ct_ore.proofs.ways.derivation_weight.Given as goal
 
 abbrev pub invariant-loop-j : goal.invariant-loop-j

@@ -1,7 +1,6 @@
 use Rattle.std.proofs.Common.{rules, ◌≡◌, ◌+◌, ◌-◌, ◌*◌, ◌^◌, suc, ◌∙◌, sym, ap, ap₂, subst, arith}
 use Rattle.ct_ore.specs.Naming.{action_of}
-use Rattle.ct_ore.specs.PairTerms.{ways}
-use Rattle.ct_ore.specs.PairWeights.{choose, falling_power}
+use Rattle.ct_ore.specs.Kinds.{choose, falling_power, ways}
 use Rattle.ct_ore.specs.Bounds.{IsCapped}
 use Rattle.ct_algebra.specs.Actions.{Shift, Derive}
 use Rattle.ct_ore.proofs.PairWeightLaws.{ways-next}
