@@ -22,6 +22,7 @@ mod division;
 mod division_tests;
 mod gathering;
 mod laws;
+mod matrix;
 mod measures;
 mod order;
 mod part;
@@ -45,6 +46,7 @@ pub use laws::{
     products_are_within_measures, shift_is_substitution, shifts_are_within_measures,
     sum_fits_where_measures_do, sums_are_within_measures, symbols_shift_and_derive,
 };
+pub use matrix::Matrix;
 pub use poly::Poly;
 pub use split::Split;
 pub use term::Term;
