@@ -1,0 +1,7 @@
+pub mod RowContents
+pub mod Pivots
+pub mod FromZero
+pub mod DividedRows
+pub mod Starts
+pub mod RowSteps
+pub mod EliminationKept

@@ -1,0 +1,20 @@
+//! Elimination of matrices of polynomials with multipliers, without fractions and with exact overflow.
+//!
+//! `eliminate` works on [A | I], I the unit matrix, and answers an `Echelon`: the left part is A with its pivots alone in their
+//! columns, and the right part times A is the left part. Read `specs/EchelonForm.antt` first, which says what an `Echelon` keeps of A;
+//! which rows, pivots and free column come out, and which overflow comes first, is `specs/Elimination.antt`, the steps in their order.
+//! What elimination keeps and shows is proved in ct_telescoping.
+#![tactic(auto)]
+
+mod columns;
+mod echelon;
+mod elimination;
+mod entries;
+mod pivot;
+mod rows;
+mod working;
+
+pub use ct_poly::Matrix;
+pub use echelon::Echelon;
+pub use elimination::eliminate;
+pub use pivot::Pivot;
