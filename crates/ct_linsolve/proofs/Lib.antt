@@ -5,3 +5,4 @@ pub mod DividedRows
 pub mod Starts
 pub mod RowSteps
 pub mod EliminationKept
+pub mod Refuted

@@ -5,6 +5,7 @@
 --                             but zero to zero, and the pivots and the free column are those of an elimination; the row of a pivot past
 --                             the certificates is zero at every certificate's column; and a name in no entry of A is in no entry of
 --                             either side
+--     IsGiven                 right·A = left
 --     IsEchelonForm           the same of some matrix: what the two sides, the pivots and the free column say by themselves
 -- That the pivots and the free column are those of an elimination says: a pivot's column has the pivot's row as its only nonzero
 -- row, rows without a pivot are zero at every column up to the free one, or at every column, and each column past the certificates
@@ -14,7 +15,7 @@ use Rattle.std.specs.List.{All, Contains}
 use Rattle.ct_algebra.specs.Names.{Name}
 use Rattle.ct_algebra.specs.Polynomial.{Polynomial, polys}
 use Rattle.ct_telescoping.specs.Echelon.{Pivot, IsElimination}
-use Rattle.ct_telescoping.specs.Elimination.{State, matrix_of}
+use Rattle.ct_telescoping.specs.Elimination.{State, Gives, matrix_of}
 use Rattle.ct_telescoping.specs.EntriesFree.{EntriesAreFree}
 use Rattle.ct_linsolve.specs.Elimination.{Eliminated}
 use Rattle.ct_linsolve.specs.Rows.{Row}
@@ -36,3 +37,9 @@ pub record IsEchelonOf (n certs width : ℕ) (A : ℕ → ℕ → Polynomial) (e
 
 abbrev pub IsEchelonForm : ℕ → ℕ → Eliminated → Type 0
 IsEchelonForm certs width e = (A : ℕ → ℕ → Polynomial) × IsEchelonOf (length e.left) certs width A e
+
+-- the right side times the matrix A is the left side
+abbrev pub IsGiven : ℕ → (ℕ → ℕ → Polynomial) → Eliminated → Type 0
+IsGiven width A e =
+    (r : ℕ) → r < length e.left →
+    Gives polys (length e.left) width A (matrix_of polys.zero e.right r) (matrix_of polys.zero e.left r)

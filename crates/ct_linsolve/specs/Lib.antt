@@ -5,6 +5,7 @@ pub mod Elimination
 pub mod DividedRow
 -- what the result is
 pub mod EchelonForm
+pub mod Refuting
 -- what the code's types stand for
 pub mod Views
 pub mod EchelonViews

@@ -1,4 +1,5 @@
 // What elimination makes of a matrix.
+ghost use Rattle.std.specs.Prelude.{◌≤◌};
 ghost use Rattle.ct_linsolve.specs.EchelonForm.{IsEchelonForm};
 ghost use Rattle.ct_linsolve.specs.Views.{eliminated};
 
@@ -15,5 +16,6 @@ pub struct Echelon {
     pub free: Option<usize>,
     pub width: usize,
     pub certs: usize,
+    pub ghost within: { certs ≤ width },
     pub ghost formed: { ∥ IsEchelonForm certs width (eliminated left.items right.items pivots.items free) ∥₁ },
 }

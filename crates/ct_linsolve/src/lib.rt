@@ -11,6 +11,7 @@ mod echelon;
 mod elimination;
 mod entries;
 mod pivot;
+mod refutation;
 mod rows;
 mod working;
 
@@ -18,3 +19,4 @@ pub use ct_poly::Matrix;
 pub use echelon::Echelon;
 pub use elimination::eliminate;
 pub use pivot::Pivot;
+pub use refutation::refuting_rows;

@@ -21,6 +21,7 @@ pub invariant_of-result : goal.invariant_of-result
 invariant_of-result c =
     let A = c.args.matrix.now in
     record {
+      within = A.within;
       formed = echelon_form _ A.certs A.width _ _ (
           seen (λ row. row.items) A.certs A.width A.rows.items _ _ _ (working_of c.in_ok-done.done) _ _ A.filled
           (c.in_ok-rows.ensures ∙ ap (λ s. with_unit (rows_of s)) c.as_slice.ensures.value) (ap pivots_of c.new.ensures.items) c.in_ok-prev.ensures
