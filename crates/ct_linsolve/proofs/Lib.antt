@@ -6,3 +6,4 @@ pub mod Starts
 pub mod RowSteps
 pub mod EliminationKept
 pub mod Refuted
+pub mod MultipliedOut

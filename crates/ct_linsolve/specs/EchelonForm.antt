@@ -6,6 +6,7 @@
 --                             the certificates is zero at every certificate's column; and a name in no entry of A is in no entry of
 --                             either side
 --     IsGiven                 right·A = left
+--     AreProducts             rows times A are rows
 --     IsEchelonForm           the same of some matrix: what the two sides, the pivots and the free column say by themselves
 -- That the pivots and the free column are those of an elimination says: a pivot's column has the pivot's row as its only nonzero
 -- row, rows without a pivot are zero at every column up to the free one, or at every column, and each column past the certificates
@@ -43,3 +44,8 @@ abbrev pub IsGiven : ℕ → (ℕ → ℕ → Polynomial) → Eliminated → Typ
 IsGiven width A e =
     (r : ℕ) → r < length e.left →
     Gives polys (length e.left) width A (matrix_of polys.zero e.right r) (matrix_of polys.zero e.left r)
+
+-- each row of vs is the row of us there times the matrix A
+pub record AreProducts (n width : ℕ) (A : ℕ → ℕ → Polynomial) (us vs : List Row) : Type 0 where
+  pub lengths : length vs ≡ length us
+  pub gives : (r : ℕ) → r < length us → Gives polys n width A (matrix_of polys.zero us r) (matrix_of polys.zero vs r)

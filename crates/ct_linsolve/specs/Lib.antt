@@ -6,6 +6,7 @@ pub mod DividedRow
 -- what the result is
 pub mod EchelonForm
 pub mod Refuting
+pub mod Products
 -- what the code's types stand for
 pub mod Views
 pub mod EchelonViews
