@@ -3,7 +3,8 @@
 //! `eliminate` works on [A | I], I the unit matrix, and answers an `Echelon`: the left part is A with its pivots alone in their
 //! columns, and the right part times A is the left part. Read `specs/EchelonForm.antt` first, which says what an `Echelon` keeps of A;
 //! which rows, pivots and free column come out, and which overflow comes first, is `specs/Elimination.antt`, the steps in their order.
-//! What elimination keeps and shows is proved in ct_telescoping.
+//! `refuting_rows` chooses the multipliers that refute columns, and `multiply_out` multiplies rows out. What elimination keeps and
+//! shows is proved in ct_telescoping.
 #![tactic(auto)]
 
 mod columns;
