@@ -1,21 +1,13 @@
 -- Rows whose entries are divided as they are made. Main lemmas `zero_divided`, `both_zero_divided`, `cross_divided`, `dividing_start`,
 -- `dividing_more`, `divided_all` and `divided_answers`, which the functions of `entries` cite.
 -- The row of p·x − a·y isn't made; it is only known what it would be, and that its quotients are those that were found.
-use Rattle.std.proofs.Common.{◌≡◌, ◌≢◌, refl, ℕ, ℤ, Bool, true, false, cond, eqb, List, [], ◌∷◌, ◌++◌, length, Ok, Some, inr, sym, ◌∙◌, ap, ap₂, subst, arith, append_assoc, append-nil, length-append}
-use Rattle.std.specs.Prelude.{None, Option, IfSome}
-use Rattle.std.specs.Option.{ok_or}
-use Rattle.ct_algebra.specs.Monomial.{Mono, monomials}
-use Rattle.ct_algebra.specs.Polynomial.{Polynomial, polys, plus_is, times, count, norm}
-use Rattle.ct_algebra.specs.Ring.{zero_mul, one_mul}
-use Rattle.ct_algebra.specs.Sums.{none, none_of, has_none}
-use Rattle.ct_algebra.specs.WholeNumbers.{int_group}
-use Rattle.ct_checked.specs.Checked.{◌>>=◌, verdict_fits}
-use Rattle.ct_checked.proofs.Traversals.{behind as behind_one, each_behind}
-use Rattle.ct_poly.specs.Crossing.{cross, checked_cross, IsCrossQuotient}
-use Rattle.ct_poly.specs.Division.{quotient, checked_quotient, value_or_none}
-use Rattle.ct_poly.specs.Measures.{minus, checked_times, checked_minus}
+use Rattle.ct_linsolve.proofs.Base.{◌≡◌, ◌≢◌, refl, ℕ, ℤ, Bool, true, false, cond, eqb, List, [], ◌∷◌, ◌++◌, length, Ok, Some, inr, sym, ◌∙◌, ap, ap₂}
+use Rattle.ct_linsolve.proofs.Base.{subst, arith, append_assoc, append-nil, length-append, None, Option, IfSome, ok_or, Mono, monomials, Polynomial}
+use Rattle.ct_linsolve.proofs.Base.{polys, plus_is, times, count, norm, zero_mul, one_mul, none, none_of, has_none, int_group, ◌>>=◌, verdict_fits}
+use Rattle.ct_linsolve.proofs.Base.{each_behind, cross, checked_cross, IsCrossQuotient, quotient, checked_quotient, value_or_none, minus}
+use Rattle.ct_linsolve.proofs.Base.{checked_times, checked_minus, quotient_is}
+use Rattle.ct_checked.proofs.Traversals.{behind as behind_one}
 use Rattle.ct_poly.proofs.FittingQuotients.{fitting_quotient}
-use Rattle.ct_poly.proofs.DivisionLaws.{quotient_is}
 use Rattle.ct_poly.proofs.OverflowRules.{sum_fits}
 use Rattle.ct_poly.proofs.Values.{product_with_zero_answers}
 use Rattle.ct_linsolve.specs.DividedRow.{IsDividedEntry, IsDividedRow}

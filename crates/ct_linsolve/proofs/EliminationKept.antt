@@ -1,29 +1,24 @@
 -- Elimination is one of ct_telescoping's, so what is proved there holds of it: main lemmas `seen` and `echelon_form`, which
 -- `eliminate` cites. By induction on the columns: each with a pivot is a `Step` of both parts of the rows.
-use Rattle.std.proofs.Common.{◌≡◌, ◌≢◌, refl, ℕ, zero, suc, ◌+◌, ◌-◌, ◌<◌, Bool, true, false, cond, eqb, ltb, Option, Some, None, Ok, List, [], ◌∷◌, ◌++◌, length, map, take, drop, sym, ◌∙◌, ap, ap₂, subst, arith, length-append}
-use Rattle.std.specs.List.{All, range_with_len}
-use Rattle.std.proofs.lemmas.Bool.{ltb-true, ltb-false}
-use Rattle.std.proofs.lemmas.List.{length-map, get_or-map, get_or-take, get_or-drop, get_or-append-add, get_or_append_left, length-take-le, length-drop}
+use Rattle.ct_linsolve.proofs.Base.{◌≡◌, ◌≢◌, refl, ℕ, zero, suc, ◌+◌, ◌-◌, ◌<◌, Bool, true, false, cond, eqb, ltb, Option, Some, None, Ok, List, []}
+use Rattle.ct_linsolve.proofs.Base.{◌∷◌, ◌++◌, length, map, take, drop, sym, ◌∙◌, ap, ap₂, subst, arith, length-append, All, range_with_len, ltb-true}
+use Rattle.ct_linsolve.proofs.Base.{ltb-false, length-map, get_or-map, get_or-take, get_or-drop, get_or-append-add, get_or_append_left}
+use Rattle.ct_linsolve.proofs.Base.{length-take-le, length-drop, get_or-map-range_with_len, length-map-range_with_len, Polynomial, polys, ◌>>=◌}
+use Rattle.ct_linsolve.proofs.Base.{both_fit, checked_fold, Pivot, IsUnused, IsEchelon, IsFree, IsElimination, State, Step, KeepsMatrix, first_state}
+use Rattle.ct_linsolve.proofs.Base.{matrix_of, contains_none, by_columns, finished}
 use Rattle.std.proofs.lemmas.List.Elements.{All-map}
-use Rattle.std.proofs.lemmas.List.FromFn.{get_or-map-range_with_len, length-map-range_with_len}
-use native.Mathlib.Decide.{ℕ_discrete}
 use Rattle.ct_algebra.specs.Names.{Name}
-use Rattle.ct_algebra.specs.Polynomial.{Polynomial, polys}
 use Rattle.ct_algebra.specs.FreeOf.{IsFreeOf}
 use Rattle.ct_algebra.specs.Laws.RangeSums.{sum_below-same}
-use Rattle.ct_checked.specs.Checked.{◌>>=◌, both_fit}
-use Rattle.ct_checked.specs.Traversal.{checked_fold}
-use Rattle.ct_telescoping.specs.Echelon.{Pivot, IsUnused, IsEchelon, IsFree, IsElimination}
-use Rattle.ct_telescoping.specs.Elimination.{State, Step, KeepsMatrix, first_state, matrix_of}
 use Rattle.ct_telescoping.specs.EliminationLaws.{GoesByColumns}
 use Rattle.ct_telescoping.specs.EntriesFree.{EntriesAreFree}
-use Rattle.ct_telescoping.proofs.ListParts.{contains_none}
-use Rattle.ct_telescoping.proofs.EliminationLawProofs.{by_columns, finished}
 use Rattle.ct_linsolve.specs.EchelonForm.{IsEchelonOf, IsEchelonForm, sides}
-use Rattle.ct_linsolve.specs.Elimination.{Working, Eliminated, unit_row, with_unit, pivot_row, without_pivot, by_pivot, unless_free, checked_pivot, checked_rows, checked_column, start, parted, checked_elimination}
+use Rattle.ct_linsolve.specs.Elimination.{Working, Eliminated, unit_row, with_unit, pivot_row, without_pivot, by_pivot, unless_free, checked_pivot}
+use Rattle.ct_linsolve.specs.Elimination.{checked_rows, checked_column, start, parted, checked_elimination}
 use Rattle.ct_linsolve.specs.Rows.{Row, entry, row_at}
 use Rattle.ct_linsolve.proofs.Pivots.{IsPivotRow, found_pivot, no_pivot, one_nonzero}
 use Rattle.ct_linsolve.proofs.RowSteps.{AreRowSteps, rows_step}
+use native.Mathlib.Decide.{ℕ_discrete}
 
 -- ---- both parts of the rows
 

@@ -1,11 +1,10 @@
 -- Lists that are numbered from 0, worked through from the front; and searches in numbers. Main lemmas: `zero_behind`, cited where a loop
 -- begins, `each_at`, cited where it is told what the values are, and `range_opens`.
-use Rattle.std.proofs.Common.{◌≡◌, refl, sym, ap, ◌∙◌, arith, ℕ, zero, suc, ◌+◌, ◌-◌, ◌<◌, ◌≤◌, List, [], ◌∷◌, ◌++◌, length, get_or, subst, Result, Ok, Some, None, Bool, true, false, cond}
-use Rattle.std.specs.List.{find, range_with_len}
+use Rattle.ct_linsolve.proofs.Base.{◌≡◌, refl, sym, ap, ◌∙◌, arith, ℕ, zero, suc, ◌+◌, ◌-◌, ◌<◌, ◌≤◌, List, [], ◌∷◌, ◌++◌, length, get_or, subst}
+use Rattle.ct_linsolve.proofs.Base.{Result, Ok, Some, None, Bool, true, false, cond, find, range_with_len, ◌>>=◌, both_fit, checked_each_from}
+use Rattle.ct_linsolve.proofs.Base.{each_behind}
+use Rattle.ct_checked.proofs.Traversals.{behind as behind_one}
 use native.Mathlib.Decide.{ℕ_discrete}
-use Rattle.ct_checked.specs.Checked.{◌>>=◌, both_fit}
-use Rattle.ct_checked.specs.Traversal.{checked_each_from}
-use Rattle.ct_checked.proofs.Traversals.{behind as behind_one, each_behind}
 
 module _ {X Y E : Type 0} (f : ℕ → X → Result Y E) where
   -- the values that are done, and those of what is left

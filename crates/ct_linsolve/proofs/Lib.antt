@@ -1,3 +1,4 @@
+pub mod Base
 pub mod RowContents
 pub mod Pivots
 pub mod FromZero

@@ -1,14 +1,8 @@
 -- Rows that are multiplied out are the sums of the products: main lemma `products_are`, which `multiply_out` cites.
-use Rattle.std.proofs.Common.{◌≡◌, refl, ℕ, zero, suc, ◌+◌, Ok, List, [], ◌∷◌, length, sym, ◌∙◌, ap, arith}
-use Rattle.std.specs.List.{range_with_len}
-use Rattle.std.proofs.lemmas.List.FromFn.{get_or-range_with_len, length-range_with_len}
-use Rattle.ct_algebra.specs.Polynomial.{Polynomial, polys, plus, plus_is, times}
+use Rattle.ct_linsolve.proofs.Base.{◌≡◌, refl, ℕ, zero, suc, ◌+◌, Ok, List, [], ◌∷◌, length, sym, ◌∙◌, ap, arith, range_with_len}
+use Rattle.ct_linsolve.proofs.Base.{get_or-range_with_len, length-range_with_len, Polynomial, polys, plus, plus_is, times, both_fit, verdict_ok}
+use Rattle.ct_linsolve.proofs.Base.{checked_fold, each_length, checked_plus, checked_times, product_overflow, sum_overflow, matrix_of}
 use Rattle.ct_algebra.specs.RangeSum.{sum_below}
-use Rattle.ct_checked.specs.Checked.{both_fit, verdict_ok}
-use Rattle.ct_checked.specs.Traversal.{checked_fold}
-use Rattle.ct_checked.proofs.Traversals.{each_length}
-use Rattle.ct_poly.specs.Measures.{checked_plus, checked_times, product_overflow, sum_overflow}
-use Rattle.ct_telescoping.specs.Elimination.{matrix_of}
 use Rattle.ct_linsolve.specs.EchelonForm.{AreProducts}
 use Rattle.ct_linsolve.specs.Products.{plus_product, with_product, checked_entry, checked_product, checked_products}
 use Rattle.ct_linsolve.specs.Rows.{Row, entry, row_at}

@@ -1,16 +1,12 @@
 -- Pivots: where they are found, and that neither their entries nor the primitive forms of these are zero. Main lemmas `told_zero`,
 -- `form_nonzero`, `seek_is`, `found_pivot`, `no_pivot`, `column_keeps`.
-use Rattle.std.proofs.Common.{◌≡◌, ◌≢◌, ◌↔◌, ◌⊎◌, inl, inr, refl, ℕ, suc, ◌+◌, ◌<◌, Bool, true, false, cond, eqb, ltb, not, ◌&&◌, ◌||◌, IsTrue, Ok, Some, None, Option, List, [], ◌∷◌, ◌++◌, length, sym, ◌∙◌, ap, subst, arith, eqb-true}
-use Rattle.std.proofs.lemmas.Bool.{eqb-false}
-use Rattle.std.specs.List.{Contains, find, range_with_len}
-use Rattle.ct_algebra.specs.Polynomial.{Polynomial, polys, polys_domain, norm}
-use Rattle.ct_algebra.specs.Sums.{none}
-use Rattle.ct_checked.specs.Checked.{both_fit}
-use Rattle.ct_poly.specs.Content.{primitive_form, content}
+use Rattle.ct_linsolve.proofs.Base.{◌≡◌, ◌≢◌, ◌↔◌, ◌⊎◌, inl, inr, refl, ℕ, suc, ◌+◌, ◌<◌, Bool, true, false, cond, eqb, ltb, not, ◌&&◌, ◌||◌, IsTrue}
+use Rattle.ct_linsolve.proofs.Base.{Ok, Some, None, Option, List, [], ◌∷◌, ◌++◌, length, sym, ◌∙◌, ap, subst, arith, eqb-true, eqb-false, Contains}
+use Rattle.ct_linsolve.proofs.Base.{find, range_with_len, Polynomial, polys, polys_domain, norm, none, both_fit, primitive_form, content, Pivot}
+use Rattle.ct_linsolve.proofs.Base.{IsUnused, contains_none, contains_cases, contains_first, contains_later}
 use Rattle.ct_poly.proofs.PrimitiveParts.{form_primitive}
-use Rattle.ct_telescoping.specs.Echelon.{Pivot, IsUnused}
-use Rattle.ct_telescoping.proofs.ListParts.{contains_none, contains_cases, contains_first, contains_later}
-use Rattle.ct_linsolve.specs.Elimination.{Working, is_used, is_pivot_row, pivot_row, without_pivot, by_pivot, unless_free, checked_pivot, checked_rows, checked_column}
+use Rattle.ct_linsolve.specs.Elimination.{Working, is_used, is_pivot_row, pivot_row, without_pivot, by_pivot, unless_free, checked_pivot}
+use Rattle.ct_linsolve.specs.Elimination.{checked_rows, checked_column}
 use Rattle.ct_linsolve.specs.Rows.{Row, entry, row_at}
 use Rattle.ct_linsolve.proofs.FromZero.{found, none_found}
 

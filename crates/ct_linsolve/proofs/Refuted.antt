@@ -1,16 +1,10 @@
 -- The rows that are chosen refute: main lemmas `rows_refute`, and `listed_from` for the loop that lists them.
 -- An echelon form of one matrix is one of every matrix that the right side makes the left side of.
-use Rattle.std.proofs.Common.{◌≡◌, ◌⊎◌, inl, inr, refl, ℕ, zero, suc, ◌+◌, ◌-◌, ◌<◌, ◌≤◌, Bool, true, false, cond, eqb, Some, None, List, [], ◌∷◌, ◌++◌, length, map, sym, ◌∙◌, ap, subst, arith, append_assoc, append-nil, eqb-true}
+use Rattle.ct_linsolve.proofs.Base.{◌≡◌, ◌⊎◌, inl, inr, refl, ℕ, zero, suc, ◌+◌, ◌-◌, ◌<◌, ◌≤◌, Bool, true, false, cond, eqb, Some, None, List, []}
+use Rattle.ct_linsolve.proofs.Base.{◌∷◌, ◌++◌, length, map, sym, ◌∙◌, ap, subst, arith, append_assoc, append-nil, eqb-true, Contains, range_with_len}
+use Rattle.ct_linsolve.proofs.Base.{eqb-false, get_or-map-range_with_len, Polynomial, polys, Pivot, AreInOrder, IsEchelon, IsElimination, matrix_of}
+use Rattle.ct_linsolve.proofs.Base.{Refutes, Isolates, finished, contains_none, contains_cases}
 use Rattle.std.proofs.Math.Logic.{∥∥₁_elim}
-use Rattle.std.specs.List.{Contains, range_with_len}
-use Rattle.std.proofs.lemmas.Bool.{eqb-false}
-use Rattle.std.proofs.lemmas.List.FromFn.{get_or-map-range_with_len}
-use Rattle.ct_algebra.specs.Polynomial.{Polynomial, polys}
-use Rattle.ct_telescoping.specs.Echelon.{Pivot, AreInOrder, IsEchelon, IsElimination}
-use Rattle.ct_telescoping.specs.Elimination.{matrix_of}
-use Rattle.ct_telescoping.specs.Refutation.{Refutes, Isolates}
-use Rattle.ct_telescoping.proofs.EliminationLawProofs.{finished}
-use Rattle.ct_telescoping.proofs.ListParts.{contains_none, contains_cases}
 use Rattle.ct_linsolve.specs.EchelonForm.{IsEchelonOf, IsEchelonForm, IsGiven, sides}
 use Rattle.ct_linsolve.specs.Elimination.{Eliminated}
 use Rattle.ct_linsolve.specs.Refuting.{pivot_of, right_part, refuting_row, refuting_rows, column_row}

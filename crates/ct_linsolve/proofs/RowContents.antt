@@ -1,16 +1,14 @@
 -- The content of a row: the number whose divisors are the common divisors of all its coefficients. Main lemmas
 -- `row_content_only`, `content_divides` and the steps of the loop of `content_of`.
-use Rattle.std.proofs.Common.{◌≡◌, ◌↔◌, refl, ℕ, zero, suc, ◌≤◌, ◌<◌, ℤ, pos, unsigned_abs, cond, map, le-ltb, lt-ltb, List, [], ◌∷◌, ◌++◌, length, sym, ◌∙◌, ap, subst, arith}
+use Rattle.ct_linsolve.proofs.Base.{◌≡◌, ◌↔◌, refl, ℕ, zero, suc, ◌≤◌, ◌<◌, ℤ, pos, unsigned_abs, cond, map, le-ltb, lt-ltb, List, [], ◌∷◌, ◌++◌}
+use Rattle.ct_linsolve.proofs.Base.{length, sym, ◌∙◌, ap, subst, arith, Mono, monomials, unit, Polynomial, norm_of, int_group, DividesAll}
+use Rattle.ct_linsolve.proofs.Base.{DividesEach, IsContentOf, content, divided, greatest_up_to}
 use Rattle.std.specs.Int.{◌∣◌, IsGcd}
 use Rattle.std.proofs.lemmas.List.Sums.{sum_by-cons}
 use Rattle.std.proofs.lemmas.Nat.Gcd.{le_of_dvd, dvd_refl, dvd_trans, dvd-zero}
 use Rattle.std.proofs.Math.Nat.{eq-zero_of_zero-dvd, eq-one_of_dvd-one, one-dvd}
 use Rattle.ct_algebra.specs.Laws.Terms.{not_zero}
-use Rattle.ct_algebra.specs.Monomial.{Mono, monomials, unit}
-use Rattle.ct_algebra.specs.Polynomial.{Polynomial, norm_of}
 use Rattle.ct_algebra.specs.Terms.{IsCanonical}
-use Rattle.ct_algebra.specs.WholeNumbers.{int_group}
-use Rattle.ct_poly.specs.Content.{DividesAll, DividesEach, IsContentOf, content, divided, greatest_up_to}
 use Rattle.ct_poly.proofs.Contents.{content_is, greatest_within, some_content}
 use Rattle.ct_poly.proofs.WholeQuotients.{zero_abs}
 use Rattle.ct_linsolve.specs.Rows.{Row, row_terms, row_content, over_number, over_content}

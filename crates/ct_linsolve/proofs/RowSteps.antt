@@ -1,26 +1,16 @@
 -- A checked column makes row steps: main lemmas `other_step` and `rows_step`.
 -- Entry by entry the crossed row is p·x − a·y, at the pivot column too, where it is zero; dividing by a polynomial and by a whole
 -- number leaves each entry times one factor.
-use Rattle.std.proofs.Common.{◌≡◌, ◌≢◌, refl, ℕ, zero, suc, ◌+◌, ◌<◌, pos, Bool, true, false, cond, eqb, ltb, Option, Some, None, Ok, Err, Result, List, [], ◌∷◌, length, map, sym, ◌∙◌, ap, ap₂, subst, arith, eqb-true}
-use Rattle.std.specs.Option.{ok_or}
-use Rattle.std.proofs.lemmas.Bool.{eqb-false, ltb-true}
-use Rattle.std.proofs.lemmas.List.{length-map}
-use Rattle.ct_algebra.specs.Monomial.{unit}
-use Rattle.ct_algebra.specs.Polynomial.{Polynomial, polys, polys_domain, coefficient, times, plus_is}
-use Rattle.ct_algebra.specs.Ring.{one_mul, mul_zero}
+use Rattle.ct_linsolve.proofs.Base.{◌≡◌, ◌≢◌, refl, ℕ, zero, suc, ◌+◌, ◌<◌, pos, Bool, true, false, cond, eqb, ltb, Option, Some, None, Ok, Err}
+use Rattle.ct_linsolve.proofs.Base.{Result, List, [], ◌∷◌, length, map, sym, ◌∙◌, ap, ap₂, subst, arith, eqb-true, ok_or, eqb-false, ltb-true}
+use Rattle.ct_linsolve.proofs.Base.{length-map, unit, Polynomial, polys, polys_domain, coefficient, times, plus_is, one_mul, mul_zero, ◌>>=◌}
+use Rattle.ct_linsolve.proofs.Base.{both_fit, verdict_ok, checked_each_from, each_means, each_length, DividesEach, primitive_form, divided}
+use Rattle.ct_linsolve.proofs.Base.{checked_cross, quotient, minus, checked_times, checked_minus, product_overflow, sum_overflow, quotient_is}
 use Rattle.ct_algebra.specs.Domain.{product_nonzero}
 use Rattle.ct_algebra.specs.Substitution.{number, number_is}
 use Rattle.ct_algebra.proofs.PolynomialLawProofs.{finite_maps}
-use Rattle.ct_checked.specs.Checked.{◌>>=◌, both_fit, verdict_ok}
-use Rattle.ct_checked.specs.Traversal.{checked_each_from}
-use Rattle.ct_checked.proofs.Traversals.{each_means, each_length}
-use Rattle.ct_poly.specs.Content.{DividesEach, primitive_form, divided}
 use Rattle.ct_poly.proofs.DividedTerms.{divided_whole}
 use Rattle.ct_poly.proofs.WholeDivisors.{each_divides}
-use Rattle.ct_poly.specs.Crossing.{checked_cross}
-use Rattle.ct_poly.specs.Division.{quotient}
-use Rattle.ct_poly.specs.Measures.{minus, checked_times, checked_minus, product_overflow, sum_overflow}
-use Rattle.ct_poly.proofs.DivisionLaws.{quotient_is}
 use Rattle.ct_linsolve.specs.Elimination.{crossed_entry, checked_crossed, checked_divided, checked_other, row_after, checked_rows}
 use Rattle.ct_linsolve.specs.Rows.{Row, entry, row_at, quotient_or_none, quotients, or_kept, over_divisor, over_content, row_content}
 use Rattle.ct_linsolve.proofs.FromZero.{each_at}

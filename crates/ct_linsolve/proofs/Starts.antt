@@ -1,7 +1,6 @@
 -- The rows of [A | I] as loops make them. Main lemmas `unit_start` and `unit_of`, which `with_unit` and `joined` cite.
-use Rattle.std.proofs.Common.{◌≡◌, refl, sym, ap, ap₂, ◌∙◌, arith, ℕ, zero, suc, ◌+◌, cond, eqb, List, [], ◌∷◌, ◌++◌, length, map, subst, append_assoc, append-nil, length-append}
-use Rattle.std.specs.List.{range_with_len}
-use Rattle.ct_algebra.specs.Polynomial.{polys}
+use Rattle.ct_linsolve.proofs.Base.{◌≡◌, refl, sym, ap, ap₂, ◌∙◌, arith, ℕ, zero, suc, ◌+◌, cond, eqb, List, [], ◌∷◌, ◌++◌, length, map, subst}
+use Rattle.ct_linsolve.proofs.Base.{append_assoc, append-nil, length-append, range_with_len, polys}
 use Rattle.ct_linsolve.specs.Elimination.{unit_row, with_unit}
 use Rattle.ct_linsolve.specs.Rows.{Row, row_at}
 

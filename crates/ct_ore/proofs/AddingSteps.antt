@@ -1,17 +1,14 @@
 -- Merging two lists of an operator's terms, whose heads are taken from iterators. Main lemmas `room_for_sum` and `sums_met`,
 -- which the merge cites where both have a monomial. All else is as in every merge of sorted terms.
-use Rattle.std.proofs.Common.{◌≡◌, refl, sum_by, ℕ, length, MatchOption, List, [], ◌∷◌, ◌++◌, sym, ◌∙◌, ap, subst, subst₂, arith, Option, Some, None, option_to_list, Equal}
-use Rattle.ct_algebra.specs.Monomial.{Mono, monomials, mono_cmp}
-use Rattle.ct_algebra.specs.Polynomial.{Polynomial, polys, plus, count, norm}
-use Rattle.ct_algebra.specs.Terms.{keep}
-use Rattle.ct_poly.specs.Measures.{sum_overflow}
-use Rattle.ct_poly.proofs.Merging as terms
+use Rattle.ct_ore.proofs.Base.{◌≡◌, refl, sum_by, ℕ, length, MatchOption, List, [], ◌∷◌, ◌++◌, sym, ◌∙◌, ap, subst, subst₂, arith, Option, Some, None}
+use Rattle.ct_ore.proofs.Base.{option_to_list, Equal, Mono, monomials, mono_cmp, Polynomial, polys, plus, count, norm, keep, sum_overflow}
+use Rattle.ct_ore.proofs.Base.{sums_within}
 use Rattle.ct_poly.proofs.OverflowRules.{sum_fits}
-use Rattle.ct_poly.proofs.Within.{sums_within}
 use Rattle.ct_ore.specs.declared.op.OpTerm.{OpTerm}
 use Rattle.ct_ore.specs.Terms.{op_entries}
 use Rattle.ct_ore.specs.TermSums.{CanAdd}
 use Rattle.ct_ore.proofs.SortedSums.{no_length}
+use Rattle.ct_poly.proofs.Merging as terms
 
 abbrev pub entry : OpTerm → Mono × Polynomial
 entry t = (t.mono, t.coef)

@@ -1,13 +1,11 @@
 -- Monomials with one exponent changed, times a name and lowered, and powers of commuting maps as each exponent says.
 -- Main lemmas: `symbol-with`, `lower-with`, and `power-is`, by which a power acts name after name.
 -- A monomial is the power of its first name times the rest, which is without it.
-use Rattle.std.proofs.Common.{◌≡◌, refl, ℕ, zero, suc, ◌+◌, ◌-◌, ◌<◌, Bool, true, false, cond, eqb, ltb, sym, ◌∙◌, ap, ap₂, subst, arith, eqb-true, eq-eqb, lt-ltb, ltb-true, ltb-false, ◌≤◌}
-use Rattle.ct_algebra.specs.Monomial.{Mono, exp, mono, exp-mono, exp-·, exp-unit, same_mono, ◌·◌, unit}
-use Rattle.ct_algebra.specs.Names.{Name, name_with, place, symbol, exp-symbol, times_over, power, power_unit, power_symbol}
+use Rattle.ct_ore.proofs.Base.{◌≡◌, refl, ℕ, zero, suc, ◌+◌, ◌-◌, ◌<◌, Bool, true, false, cond, eqb, ltb, sym, ◌∙◌, ap, ap₂, subst, arith, eqb-true}
+use Rattle.ct_ore.proofs.Base.{eq-eqb, lt-ltb, ltb-true, ltb-false, ◌≤◌, Mono, exp, mono, exp-mono, exp-·, exp-unit, same_mono, ◌·◌, unit, Name}
+use Rattle.ct_ore.proofs.Base.{name_with, place, symbol, exp-symbol, times_over, power, power_unit, power_symbol, with_exponent, exp-with_exponent}
+use Rattle.ct_ore.proofs.Base.{place-name_with}
 use Rattle.ct_algebra.specs.Derivative.{lower, exp-lower, plus_nat_is}
-use Rattle.ct_mono.specs.Exponents.{with_exponent}
-use Rattle.ct_mono.proofs.ExponentLaws.{exp-with_exponent}
-use Rattle.ct_poly.proofs.TermLists.{place-name_with}
 use Rattle.ct_ore.specs.AllNames.{number_of_names}
 
 -- ---- one exponent changed

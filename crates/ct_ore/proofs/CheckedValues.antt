@@ -1,10 +1,7 @@
 -- A checked operation that fits has the exact value. Main lemmas `combination_value` and `checked_values`, which the laws cite:
 -- a combination is added up from the left, and the exact one from the right.
-use Rattle.std.proofs.Common.{◌≡◌, List, [], ◌∷◌, Ok, sym, ◌∙◌, ap}
-use Rattle.ct_algebra.specs.Names.{Name}
-use Rattle.ct_algebra.specs.Actions.{Action}
-use Rattle.ct_algebra.specs.Operators.{Operator, operator_group, no_operator, sum_of_operators, product_of, combination}
-use Rattle.ct_checked.specs.Checked.{verdict_ok, both_fit, ◌>>=◌}
+use Rattle.ct_ore.proofs.Base.{◌≡◌, List, [], ◌∷◌, Ok, sym, ◌∙◌, ap, Name, Action, Operator, operator_group, no_operator, sum_of_operators}
+use Rattle.ct_ore.proofs.Base.{product_of, combination, verdict_ok, both_fit, ◌>>=◌}
 use Rattle.ct_ore.specs.MeasureLaws.{CheckedValuesAreExact}
 use Rattle.ct_ore.specs.Measures.{checked_sum, checked_difference, checked_product, checked_combination}
 

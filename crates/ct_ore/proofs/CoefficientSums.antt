@@ -1,18 +1,10 @@
 -- What a list of coefficient terms says of the operator that it adds up to, and back.
 -- Main lemmas: `sum_of_coefficients` (an operator is the sum of its coefficient terms) and `coefficients_of_sum` (a list in
 -- written form is the coefficient terms of its sum). The value at a key tells equal lists of this form.
-use Rattle.std.specs.Prelude.{◌≡◌, refl, ℤ, List, [], ◌∷◌, ◌++◌}
-use Rattle.std.proofs.Common.{sym, ◌∙◌, ap, ap₂}
-use Rattle.ct_algebra.specs.Terms.{sum_over, merged}
-use Rattle.ct_algebra.specs.Laws.Terms.{IsAdditive, sum_over-merged}
-use Rattle.ct_algebra.specs.Sums.{single, lift, lift-⊕, lift-single, same_hom}
-use Rattle.ct_algebra.specs.WholeNumbers.{int_group}
-use Rattle.ct_algebra.specs.Monomial.{Mono, monomials}
-use Rattle.ct_algebra.specs.Polynomial.{Polynomial, polys, poly_set}
-use Rattle.ct_algebra.specs.Substitution.{term, term_is, term-sum}
-use Rattle.ct_algebra.specs.Operators.{Operator, operator_group, operator_set, term_of, sum_of_operators}
-use Rattle.ct_algebra.proofs.OperatorTerms.{sums_are, term_of_hom, term_of-single}
-use Rattle.ct_algebra.proofs.Merging.{sum_over-append}
+use Rattle.ct_ore.proofs.Base.{◌≡◌, ℤ, List, [], ◌∷◌, ◌++◌, sym, ◌∙◌, ap, ap₂, sum_over, merged, IsAdditive, sum_over-merged, single, lift, lift-⊕}
+use Rattle.ct_ore.proofs.Base.{lift-single, same_hom, int_group, Mono, monomials, Polynomial, polys, poly_set, term, term_is, term-sum, Operator}
+use Rattle.ct_ore.proofs.Base.{operator_group, operator_set, term_of, sum_of_operators, sums_are, term_of_hom, term_of-single, sum_over-append}
+use Rattle.std.specs.Prelude.{refl}
 use Rattle.ct_ore.specs.declared.coefficient_term.CoefficientTerm.{CoefficientTerm}
 use Rattle.ct_ore.specs.CoefficientTerms.{by_parts, keyed, part, sum_of_parts, row_of, all_terms, coefficient_terms}
 

@@ -1,15 +1,9 @@
 -- What symbols make of a list, before a polynomial: where there are none the list stays, and the product of a sorted list is
 -- that of the list. Main lemmas `raised_none`, `expanded_none`, `product_of_sorted`.
-use Rattle.std.proofs.Common.{◌≡◌, refl, ℕ, zero, suc, ◌+◌, ◌-◌, ◌*◌, pos, ◌*ℤ◌, List, [], ◌∷◌, ◌++◌, length, sym, ◌∙◌, ap, ap₂, arith, append-nil, mul-le-mul_left}
-use native.Mathlib.Nat.{pow-zero}
-use Rattle.std.proofs.lemmas.List.Concat.{flat_map-append}
-use Rattle.ct_algebra.specs.Monomial.{Mono, exp, total}
-use Rattle.ct_algebra.specs.Names.{Name, name_with}
-use Rattle.ct_algebra.specs.Actions.{Action, Shift, Derive, Still}
-use Rattle.ct_algebra.specs.Polynomial.{Polynomial, norm_of}
+use Rattle.ct_ore.proofs.Base.{◌≡◌, refl, ℕ, zero, suc, ◌+◌, ◌-◌, ◌*◌, pos, ◌*ℤ◌, List, [], ◌∷◌, ◌++◌, length, sym, ◌∙◌, ap, ap₂, arith, append-nil}
+use Rattle.ct_ore.proofs.Base.{mul-le-mul_left, flat_map-append, Mono, exp, total, Name, name_with, Action, Shift, Derive, Still, Polynomial, norm_of}
+use Rattle.ct_ore.proofs.Base.{multiple, with_exponent}
 use Rattle.ct_algebra.specs.WholeNumbers.{times_one}
-use Rattle.ct_algebra.specs.Operators.{multiple}
-use Rattle.ct_mono.specs.Exponents.{with_exponent}
 use Rattle.ct_ore.specs.declared.coefficient_term.CoefficientTerm.{CoefficientTerm}
 use Rattle.ct_ore.specs.CoefficientTerms.{size_of, sum_of_parts}
 use Rattle.ct_ore.specs.PairTerms.{listed, moved_term, lowered_term, raised_term, raised, expanded_below, expanded, multiplied_by, product_terms}
@@ -21,6 +15,7 @@ use Rattle.ct_ore.proofs.Multiples.{size_scaled, length_scaled}
 use Rattle.ct_ore.proofs.PairMeasureLaws.{six_total}
 use Rattle.ct_ore.proofs.PairProduct.{multiplied_by-value}
 use Rattle.ct_ore.proofs.SortedSums.{sum_of_same}
+use native.Mathlib.Nat.{pow-zero}
 
 -- ---- no symbols
 

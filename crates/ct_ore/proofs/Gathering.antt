@@ -1,19 +1,10 @@
 -- A list in written form falls into runs of equal symbols, and each run is a term of the operator: the steps that gather it.
 -- Main lemmas `gathering_step` and `gathering_end`. Two ways of cutting a list where the symbols change are the same way.
-use Rattle.std.proofs.Common.{◌≡◌, refl, ℕ, suc, ◌+◌, ◌≤◌, nat_abs, ℤ, List, [], ◌∷◌, ◌++◌, length, get_or, map, take, drop, sym, ◌∙◌, ap, ap₂, subst, subst₂, arith, length-append, append_assoc, append-nil, T, cond, true, false}
+use Rattle.ct_ore.proofs.Base.{◌≡◌, refl, ℕ, suc, ◌+◌, ◌≤◌, nat_abs, ℤ, List, [], ◌∷◌, ◌++◌, length, get_or, map, take, drop, sym, ◌∙◌, ap, ap₂}
+use Rattle.ct_ore.proofs.Base.{subst, subst₂, arith, length-append, append_assoc, append-nil, T, cond, true, false, sum_by-cons, sum_by-append}
+use Rattle.ct_ore.proofs.Base.{AllBelow, IsCanonical, less_is, Mono, monomials, mono_cmp, mono_same, Polynomial, polys, has_none, same_terms}
+use Rattle.ct_ore.proofs.Base.{int_group, back_canonical, most_terms, largest_norm, Term, entries, IsFalling}
 use Rattle.std.proofs.lemmas.List.{take-append-drop}
-use Rattle.std.proofs.lemmas.List.Sums.{sum_by-cons, sum_by-append}
-use Rattle.ct_algebra.specs.Terms.{AllBelow, IsCanonical}
-use Rattle.ct_algebra.specs.Laws.Terms.{less_is}
-use Rattle.ct_algebra.specs.Monomial.{Mono, monomials, mono_cmp, mono_same}
-use Rattle.ct_algebra.specs.Polynomial.{Polynomial, polys}
-use Rattle.ct_algebra.specs.Sums.{has_none, same_terms}
-use Rattle.ct_algebra.specs.WholeNumbers.{int_group}
-use Rattle.ct_algebra.proofs.Merging.{back_canonical}
-use Rattle.ct_checked.specs.Limits.{most_terms, largest_norm}
-use Rattle.ct_poly.specs.declared.term.Term.{Term}
-use Rattle.ct_poly.specs.Terms as poly
-use Rattle.ct_poly.specs.Terms.{entries, IsFalling}
 use Rattle.ct_ore.specs.declared.coefficient_term.CoefficientTerm.{CoefficientTerm}
 use Rattle.ct_ore.specs.declared.op.OpTerm.{OpTerm}
 use Rattle.ct_ore.specs.Terms.{op_entries}
@@ -21,6 +12,7 @@ use Rattle.ct_ore.specs.CoefficientTerms.{sum_of_parts, size_of, IsWritten, row_
 use Rattle.ct_ore.specs.Lists.{Fits, StartsOther, AllHave, IsRun, IsRunLength, IsGathering, without_symbols}
 use Rattle.ct_ore.proofs.WrittenOperators.{op_entries-append}
 use Rattle.ct_ore.proofs.WrittenForm.{coefficients_of_sum, all_written}
+use Rattle.ct_poly.specs.Terms as poly
 
 -- ---- lists of code and their entries
 

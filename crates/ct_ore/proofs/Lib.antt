@@ -1,3 +1,4 @@
+pub mod Base
 pub mod CoefficientSums
 pub mod WrittenForm
 pub mod Gathering

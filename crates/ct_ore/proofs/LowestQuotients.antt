@@ -1,18 +1,11 @@
 -- Over its greatest common divisor with a number, an operator has none left: what divides both quotients, times the divisor,
 -- divides what was divided. A number divides an operator where it divides the negative. Main lemmas `nothing_more_divides` and
 -- `divides_back`, which the law of lowest terms cites.
-use Rattle.std.proofs.Common.{◌≡◌, ℕ, ◌*◌, ◌/◌, ◌<◌, pos, List, [], ◌∷◌, map, sym, ap, ◌∙◌, subst}
-use Rattle.std.specs.Int.{◌∣◌}
-use Rattle.std.proofs.lemmas.Nat.Gcd.{dvd_refl}
-use Rattle.std.proofs.Math.Nat.{div-mul_cancel, dvd_of_mul-dvd-mul_right, eq-one_of_dvd-one, mul-dvd-mul_right, one-mul}
-use Rattle.ct_algebra.specs.Group.{neg_neg, zero_add}
-use Rattle.ct_algebra.specs.Monomial.{Mono, unit}
-use Rattle.ct_algebra.specs.Operators.{Operator, negative, no_operator, operator_group, sum_of_operators}
-use Rattle.ct_algebra.specs.Polynomial.{Polynomial}
-use Rattle.ct_algebra.proofs.OperatorTerms.{negatives_are, sums_are}
-use Rattle.ct_poly.specs.Content.{DividesAll}
+use Rattle.ct_ore.proofs.Base.{◌≡◌, ℕ, ◌*◌, ◌/◌, ◌<◌, pos, List, [], ◌∷◌, map, sym, ap, ◌∙◌, subst, ◌∣◌, dvd_refl, div-mul_cancel}
+use Rattle.ct_ore.proofs.Base.{dvd_of_mul-dvd-mul_right, eq-one_of_dvd-one, mul-dvd-mul_right, one-mul, neg_neg, zero_add, Mono, unit, Operator}
+use Rattle.ct_ore.proofs.Base.{negative, no_operator, operator_group, sum_of_operators, Polynomial, negatives_are, sums_are, DividesAll}
+use Rattle.ct_ore.proofs.Base.{divides_negative, each_divides}
 use Rattle.ct_poly.proofs.PrimitiveParts.{times_each}
-use Rattle.ct_poly.proofs.WholeDivisors.{divides_negative, each_divides}
 use Rattle.ct_ore.specs.Measures.{difference_of_operators}
 use Rattle.ct_ore.specs.Wholes.{DividesTerms, DividesOperator, common_divisor, entry_over, over_whole}
 use Rattle.ct_ore.specs.TermSums.{negatives}

@@ -1,17 +1,11 @@
 -- Merging two lists of coefficient terms in written form, where a stretch of terms is taken at once. Main lemmas `before_taken`
 -- and `further_before`, which the merge and its count cite, and `merged_is`. All else is as in every merge of sorted terms.
-use Rattle.std.proofs.Common.{◌≡◌, refl, ℕ, ◌<◌, ℤ, nat_abs, List, [], ◌∷◌, ◌++◌, length, take, get_or, sym, subst, arith, append_assoc, append-nil, Less, zero, suc}
-use Rattle.ct_algebra.specs.Monomial.{Mono}
-use Rattle.ct_algebra.specs.WholeNumbers.{int_group}
-use Rattle.ct_algebra.specs.Terms.{AllBelow}
-use Rattle.ct_algebra.specs.Laws.Terms.{less_is}
-use Rattle.ct_algebra.proofs.Merging.{back_canonical}
-use Rattle.ct_poly.proofs.Merging as terms
-use Rattle.ct_poly.proofs.Merging.{IsSumList, no_longer, first_taken}
-use Rattle.ct_poly.proofs.TermLists.{abs_sum}
+use Rattle.ct_ore.proofs.Base.{◌≡◌, refl, ℕ, ◌<◌, ℤ, nat_abs, List, [], ◌∷◌, ◌++◌, length, take, get_or, sym, subst, arith, append_assoc, append-nil}
+use Rattle.ct_ore.proofs.Base.{Less, zero, suc, Mono, int_group, AllBelow, less_is, back_canonical, IsSumList, no_longer, first_taken, abs_sum}
 use Rattle.ct_ore.specs.declared.coefficient_term.CoefficientTerm.{CoefficientTerm}
 use Rattle.ct_ore.specs.CoefficientTerms.{by_parts, pair_cmp, key, keyed, IsWritten}
 use Rattle.ct_ore.specs.Lists.{AllBefore, IsBefore, IsMerged}
+use Rattle.ct_poly.proofs.Merging as terms
 
 abbrev pub entry : CoefficientTerm → (Mono × Mono) × ℤ
 entry t = (key t, t.number)

@@ -1,21 +1,12 @@
 -- A polynomial's terms times the terms of a list, in written form: one row, and two halves whose products are merged.
 -- Main lemmas `sum_of_row`, `sum_of_column`, `sum_of_left_halves`, `sum_of_right_halves`. Cited by the product.
 -- A term keeps the order of names, and the product is additive on either side.
-use Rattle.std.proofs.Common.{◌≡◌, refl, ℕ, ◌+◌, ◌*◌, ◌<◌, ◌≤◌, ℤ, ◌*ℤ◌, nat_abs, List, [], ◌∷◌, ◌++◌, length, sym, ◌∙◌, ap, ap₂, subst, arith, mul-pos, length-append, append-nil, T, cond, true, false}
-use Rattle.std.specs.Ordering.{ordering_then}
+use Rattle.ct_ore.proofs.Base.{◌≡◌, refl, ℕ, ◌+◌, ◌*◌, ◌<◌, ◌≤◌, ℤ, ◌*ℤ◌, nat_abs, List, [], ◌∷◌, ◌++◌, length, sym, ◌∙◌, ap, ap₂, subst, arith}
+use Rattle.ct_ore.proofs.Base.{mul-pos, length-append, append-nil, T, cond, true, false, ordering_then, flat_map-append, unsigned_abs-mul}
+use Rattle.ct_ore.proofs.Base.{sum_by-cons, sum_by-append, swap_sum, EachTerm, AllBelow, IsCanonical, is_less, int_group, int_is_zero, Mono}
+use Rattle.ct_ore.proofs.Base.{monomials, mono_cmp, mono_same, mono_ordered, total, ◌·◌, ·_comm, norm_of, Operator, operator_group, front_canonical}
+use Rattle.ct_ore.proofs.Base.{back_canonical, sums_are, largest_degree, largest_norm}
 use Rattle.std.proofs.lemmas.List.{map-append}
-use Rattle.std.proofs.lemmas.List.Concat.{flat_map-append}
-use Rattle.std.proofs.lemmas.Int.{unsigned_abs-mul}
-use Rattle.std.proofs.lemmas.List.Sums.{sum_by-cons, sum_by-append}
-use Rattle.ct_algebra.specs.Group.{swap_sum}
-use Rattle.ct_algebra.specs.Terms.{EachTerm, AllBelow, IsCanonical, is_less}
-use Rattle.ct_algebra.specs.WholeNumbers.{int_group, int_is_zero}
-use Rattle.ct_algebra.specs.Monomial.{Mono, monomials, mono_cmp, mono_same, mono_ordered, total, ◌·◌, ·_comm}
-use Rattle.ct_algebra.specs.Polynomial.{norm_of}
-use Rattle.ct_algebra.specs.Operators.{Operator, operator_group}
-use Rattle.ct_algebra.proofs.Merging.{front_canonical, back_canonical}
-use Rattle.ct_algebra.proofs.OperatorTerms.{sums_are}
-use Rattle.ct_checked.specs.Limits.{largest_degree, largest_norm}
 use Rattle.ct_ore.specs.declared.coefficient_term.CoefficientTerm.{CoefficientTerm}
 use Rattle.ct_ore.specs.CoefficientTerms.{by_parts, pair_cmp, pair_cmp_is, keyed, size_of, sum_of_parts, IsWritten}
 use Rattle.ct_ore.specs.PairTerms.{times_term, multiplied, multiplied_by}

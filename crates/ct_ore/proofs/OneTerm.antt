@@ -1,12 +1,6 @@
 -- The terms and the measures of one term. Main lemmas `terms-term`, and `term_count-one` .. `order_of-one`.
-use Rattle.std.proofs.Common.{◌≡◌, ◌≢◌, false, true, cond, max, ℤ, List, [], ◌∷◌, length, map, T, refl, sym, ap, ◌∙◌, arith, append-nil}
-use Rattle.ct_algebra.specs.Sums.{none}
-use Rattle.ct_algebra.specs.Monomial.{Mono, total, mono, unit}
-use Rattle.ct_algebra.specs.Polynomial.{Polynomial, polys, terms-poly_of, count, norm, degree}
-use Rattle.ct_algebra.specs.Substitution.{term}
-use Rattle.ct_algebra.specs.WholeNumbers.{int_is_zero}
-use Rattle.ct_algebra.specs.Operators.{term_of}
-use Rattle.ct_poly.proofs.TermLists.{poly_of-single}
+use Rattle.ct_ore.proofs.Base.{◌≡◌, ◌≢◌, false, true, cond, max, ℤ, List, [], ◌∷◌, length, map, T, refl, sym, ap, ◌∙◌, arith, append-nil, none, Mono}
+use Rattle.ct_ore.proofs.Base.{total, mono, unit, Polynomial, polys, terms-poly_of, count, norm, degree, term, int_is_zero, term_of, poly_of-single}
 use Rattle.ct_ore.specs.CoefficientTerms.{row_of, all_terms, coefficient_terms}
 use Rattle.ct_ore.specs.Measures.{term_count, term_norm, greatest, coefficient_degree, order_of}
 use Rattle.ct_ore.specs.TermSums.{entries_count, entries_norm}

@@ -1,14 +1,9 @@
 -- How many coefficient terms an operator has and how large they are: what a value of code keeps of its operator.
 -- Main lemmas `fits_of_terms` (terms in code are within the limits where their operator is) and `term_fits`, of one term;
 -- `count-coefficient_terms` and `norm-coefficient_terms` tie the code's lists to the measures.
-use Rattle.std.proofs.Common.{◌≡◌, refl, ℕ, ◌+◌, ◌≤◌, nat_abs, ℤ, List, [], ◌∷◌, length, sym, ◌∙◌, ap, subst, arith, cond, Bool, true, false, append-nil, suc, lit≤, ap₂, length-append}
-use Rattle.std.proofs.lemmas.List.Sums.{sum_by-cons, sum_by-append}
-use Rattle.ct_algebra.specs.Sums.{has_none, none_of, single}
-use Rattle.ct_algebra.specs.Monomial.{Mono, monomials}
-use Rattle.ct_algebra.specs.Polynomial.{Polynomial, polys, count, norm, norm_of}
-use Rattle.ct_algebra.specs.WholeNumbers.{int_group}
-use Rattle.ct_algebra.specs.Operators.{Operator, term_of, no_operator}
-use Rattle.ct_checked.specs.Limits.{most_terms, largest_norm}
+use Rattle.ct_ore.proofs.Base.{◌≡◌, refl, ℕ, ◌+◌, ◌≤◌, nat_abs, ℤ, List, [], ◌∷◌, length, sym, ◌∙◌, ap, subst, arith, cond, Bool, true, false}
+use Rattle.ct_ore.proofs.Base.{append-nil, suc, lit≤, ap₂, length-append, sum_by-cons, sum_by-append, has_none, none_of, single, Mono, monomials}
+use Rattle.ct_ore.proofs.Base.{Polynomial, polys, count, norm, norm_of, int_group, Operator, term_of, no_operator, most_terms, largest_norm}
 use Rattle.ct_ore.specs.declared.coefficient_term.CoefficientTerm.{CoefficientTerm}
 use Rattle.ct_ore.specs.declared.op.OpTerm.{OpTerm}
 use Rattle.ct_ore.specs.Terms.{op_entries, operator_of_terms, IsOperator}

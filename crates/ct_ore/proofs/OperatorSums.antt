@@ -2,22 +2,16 @@
 -- within their measures. Main lemmas `can_add`, `merged_is`, `sum_fits`, `negative_terms`, which the methods of `Op` cite, and
 -- `sum_within`, `difference_within`, which the laws cite. The measures of an operator are added up over its terms, or are the
 -- greatest of them, and inserting a term adds at most its own.
-use Rattle.std.proofs.Common.{◌≡◌, refl, ℕ, ◌+◌, ◌≤◌, ◌<◌, ltb, max, map, ℤ, neg_ℤ, ◌⊎◌, inl, inr, List, [], ◌∷◌, sym, ◌∙◌, ap, ap₂, subst, arith, Bool, true, false, cond, T, Ordering, Less, Equal, Greater, Some, None, lt-ltb, le-ltb, ltb-false}
+use Rattle.ct_ore.proofs.Base.{◌≡◌, refl, ℕ, ◌+◌, ◌≤◌, ◌<◌, ltb, max, map, ℤ, neg_ℤ, ◌⊎◌, inl, inr, List, [], ◌∷◌, sym, ◌∙◌, ap, ap₂, subst, arith}
+use Rattle.ct_ore.proofs.Base.{Bool, true, false, cond, T, Ordering, Less, Equal, Greater, Some, None, lt-ltb, le-ltb, ltb-false, sum_by-cons}
+use Rattle.ct_ore.proofs.Base.{neg_neg, neg_zero, EachTerm, EachTerm-weaker, by_order, keep, insert, merged, AllBelow, IsCanonical, ◌⊕◌, EachTerm-⊕}
+use Rattle.ct_ore.proofs.Base.{negated, Mono, monomials, mono_cmp, total, Polynomial, polys, plus, plus_is, count, norm, degree, degree_of}
+use Rattle.ct_ore.proofs.Base.{degree_greatest, int_group, Operator, operator_of, sum_of_operators, negative, most_terms, largest_norm, Terms, Number}
+use Rattle.ct_ore.proofs.Base.{broken, sums_within}
 use Rattle.std.proofs.lemmas.Bool.{cases_lt}
-use Rattle.std.proofs.lemmas.List.Sums.{sum_by-cons}
-use Rattle.ct_algebra.specs.Group.{neg_neg, neg_zero}
-use Rattle.ct_algebra.specs.Terms.{EachTerm, EachTerm-weaker, by_order, keep, insert, merged, AllBelow, IsCanonical}
-use Rattle.ct_algebra.specs.Sums.{◌⊕◌, EachTerm-⊕, negated}
-use Rattle.ct_algebra.specs.Monomial.{Mono, monomials, mono_cmp, total}
-use Rattle.ct_algebra.specs.Polynomial.{Polynomial, polys, plus, plus_is, count, norm, degree, degree_of, degree_greatest}
-use Rattle.ct_algebra.specs.WholeNumbers.{int_group}
-use Rattle.ct_algebra.specs.Operators.{Operator, operator_of, sum_of_operators, negative}
 use Rattle.ct_algebra.proofs.PolynomialLawProofs.{degrees, finite_maps}
-use Rattle.ct_checked.specs.Limits.{most_terms, largest_norm}
-use Rattle.ct_checked.specs.declared.fault.Kind.TheVariants.{Terms, Number}
-use Rattle.ct_poly.specs.Measures.{broken}
 use Rattle.ct_poly.proofs.OverflowRules.{is_broken, is_kept}
-use Rattle.ct_poly.proofs.Within.{sums_within, negatives_within as neg_within}
+use Rattle.ct_poly.proofs.Within.{negatives_within as neg_within}
 use Rattle.ct_ore.specs.declared.op.OpTerm.{OpTerm}
 use Rattle.ct_ore.specs.Terms.{op_entries}
 use Rattle.ct_ore.specs.CoefficientTerms.{coefficient_terms}

@@ -1,13 +1,9 @@
 -- How many terms symbols of one name make of a list, and how large these are: main lemmas `raised-count`, `raised-size`.
 -- Both are for sums over the terms that weigh each by what its other names say, so that one name after the other may be taken.
 -- No name makes a list smaller: `raised-larger`.
-use Rattle.std.proofs.Common.{◌≡◌, refl, ℕ, zero, suc, ◌+◌, ◌*◌, ◌≤◌, pos, nat_abs, List, [], ◌∷◌, length, sum_by, sym, ◌∙◌, ap, ap₂, arith, mul-le-mul_left, mul-one, mul-zero}
-use Rattle.std.specs.Prelude.{flat_map}
-use Rattle.std.proofs.lemmas.Int.{unsigned_abs-mul}
-use Rattle.std.proofs.lemmas.List.Sums.{sum_by-cons, sum_by-append, sum_by_push, sum_by-le-sum_by}
-use Rattle.ct_algebra.specs.Monomial.{Mono, exp}
-use Rattle.ct_algebra.specs.Actions.{Action}
-use Rattle.ct_mono.specs.Exponents.{with_exponent}
+use Rattle.ct_ore.proofs.Base.{◌≡◌, refl, ℕ, zero, suc, ◌+◌, ◌*◌, ◌≤◌, pos, nat_abs, List, [], ◌∷◌, length, sum_by, sym, ◌∙◌, ap, ap₂, arith}
+use Rattle.ct_ore.proofs.Base.{mul-le-mul_left, mul-one, mul-zero, flat_map, unsigned_abs-mul, sum_by-cons, sum_by-append, sum_by_push}
+use Rattle.ct_ore.proofs.Base.{sum_by-le-sum_by, Mono, exp, Action, with_exponent}
 use Rattle.ct_ore.specs.declared.coefficient_term.CoefficientTerm.{CoefficientTerm}
 use Rattle.ct_ore.specs.CoefficientTerms.{size_of}
 use Rattle.ct_ore.specs.PairTerms.{listed, lowered_term, raised_term, raised}

@@ -1,20 +1,11 @@
 -- What symbols of one name make of a list of coefficient terms: main lemma `raised-value`.
 -- A derivation goes from row to row symbol by symbol, by Pascal's rule; a shift has the rows of ShiftRows.
-use Rattle.std.proofs.Common.{◌≡◌, refl, ℕ, zero, suc, ◌+◌, ◌-◌, ◌*◌, ◌<◌, ◌≤◌, ℤ, pos, ◌*ℤ◌, List, sym, ◌∙◌, ap, ap₂, arith, zero-mul}
-use Rattle.ct_algebra.specs.Group.{Group, IsHom, zero_add}
-use Rattle.ct_algebra.specs.Laws.RangeSums.{sum_below-same, hom-sum_below}
-use Rattle.ct_algebra.specs.RangeSum.{sum_below}
-use Rattle.ct_algebra.specs.Monomial.{Mono, exp}
-use Rattle.ct_algebra.specs.Names.{Name, place, place_small, times_over}
-use Rattle.ct_algebra.specs.Polynomial.{Polynomial, polys}
-use Rattle.ct_algebra.specs.Substitution.{P, term, term-sum, times_one}
+use Rattle.ct_ore.proofs.Base.{◌≡◌, refl, ℕ, zero, suc, ◌+◌, ◌-◌, ◌*◌, ◌<◌, ◌≤◌, ℤ, pos, ◌*ℤ◌, List, sym, ◌∙◌, ap, ap₂, arith, zero-mul, Group, IsHom}
+use Rattle.ct_ore.proofs.Base.{zero_add, sum_below-same, hom-sum_below, sum_below, Mono, exp, Name, place, place_small, times_over, Polynomial, polys}
+use Rattle.ct_ore.proofs.Base.{P, term, term-sum, times_one, Action, Shift, Derive, Still, sigma_by, delta_by, Operator, operator_group, term_of}
+use Rattle.ct_ore.proofs.Base.{symbol_before, sums_are, none_is, term_of_hom, term_of-zero, operator_module, symbol_before-term_of, with_exponent}
+use Rattle.ct_ore.proofs.Base.{exp-with_exponent_same}
 use Rattle.ct_algebra.specs.Derivative.{derived-term, power_at_is}
-use Rattle.ct_algebra.specs.Actions.{Action, Shift, Derive, Still, sigma_by, delta_by}
-use Rattle.ct_algebra.specs.Operators.{Operator, operator_group, term_of, symbol_before}
-use Rattle.ct_algebra.proofs.OperatorTerms.{sums_are, none_is, term_of_hom, term_of-zero}
-use Rattle.ct_algebra.proofs.ProductRule.{operator_module, symbol_before-term_of}
-use Rattle.ct_mono.specs.Exponents.{with_exponent}
-use Rattle.ct_mono.proofs.ExponentLaws.{exp-with_exponent_same}
 use Rattle.ct_ore.specs.declared.coefficient_term.CoefficientTerm.{CoefficientTerm}
 use Rattle.ct_ore.specs.CoefficientTerms.{sum_of_parts}
 use Rattle.ct_ore.specs.Kinds.{choose, falling_power, how_many}

@@ -1,18 +1,9 @@
 -- The rules by which a product overflows, and sums of measures, which are taken one by one.
 -- Main lemmas `summing_more`, `by_degree` .. `by_norm`, and `pairs_count`: each pair makes a term at least.
-use Rattle.std.proofs.Common.{◌≡◌, ◌≢◌, refl, ℕ, zero, suc, ◌+◌, ◌*◌, ◌<◌, ◌≤◌, ltb, eqb, cond, Bool, true, false, List, [], ◌∷◌, map, length, get_or, sym, ◌∙◌, ap, ap₂, subst, arith, Some, None, Option, lt-ltb, le-ltb, eq-eqb, ne_eqb, mul-pos}
-use Rattle.std.specs.Prelude.{slice_get}
-use Rattle.std.proofs.lemmas.List.Sums.{sum_by-cons}
-use Rattle.std.proofs.lemmas.List.Sums.{get_or-le-sum_by}
-use Rattle.ct_algebra.specs.Monomial.{Mono, exp, total, sum_six}
-use Rattle.ct_algebra.specs.Names.{Name, place, name_with}
-use Rattle.ct_algebra.specs.Actions.{Action, Still}
-use Rattle.ct_algebra.specs.Polynomial.{Polynomial, degree}
-use Rattle.ct_algebra.specs.Operators.{Operator}
-use Rattle.ct_checked.specs.Limits.{largest_degree, most_terms, largest_norm}
-use Rattle.ct_checked.specs.declared.fault.Kind.{Kind}
-use Rattle.ct_checked.specs.declared.fault.Kind.TheVariants.{Degree, Terms, Number}
-use Rattle.ct_poly.specs.Measures.{broken}
+use Rattle.ct_ore.proofs.Base.{◌≡◌, ◌≢◌, refl, ℕ, zero, suc, ◌+◌, ◌*◌, ◌<◌, ◌≤◌, ltb, eqb, cond, Bool, true, false, List, [], ◌∷◌, map, length}
+use Rattle.ct_ore.proofs.Base.{get_or, sym, ◌∙◌, ap, ap₂, subst, arith, Some, None, Option, lt-ltb, le-ltb, eq-eqb, ne_eqb, mul-pos, slice_get}
+use Rattle.ct_ore.proofs.Base.{sum_by-cons, get_or-le-sum_by, Mono, exp, total, sum_six, Name, place, name_with, Action, Still, Polynomial, degree}
+use Rattle.ct_ore.proofs.Base.{Operator, largest_degree, most_terms, largest_norm, Kind, Degree, Terms, Number, broken, place-name_with}
 use Rattle.ct_ore.specs.declared.coefficient_term.CoefficientTerm.{CoefficientTerm}
 use Rattle.ct_ore.specs.Naming.{Naming, actions_of}
 use Rattle.ct_ore.specs.AllNames.{number_of_names, over_below}
@@ -23,7 +14,6 @@ use Rattle.ct_ore.specs.PairMeasures.{name_measure, pair_measure, measure_of_row
 use Rattle.ct_ore.specs.CoefficientTerms.{all_terms, coefficient_terms}
 use Rattle.ct_ore.specs.Measures.{greatest, product_overflow, coefficient_degree, order_of, product_count, product_norm}
 use Rattle.ct_ore.specs.Bounds.{IsCapped, IsSumming}
-use Rattle.ct_poly.proofs.TermLists.{place-name_with}
 use Rattle.ct_ore.proofs.PairWeightLaws.{how_many-positive}
 use Rattle.ct_ore.proofs.ProductMeasures.{count-pairs, norm-pairs}
 

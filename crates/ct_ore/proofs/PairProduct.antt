@@ -1,23 +1,13 @@
 -- The terms that a product makes are the product: main lemmas `product_terms-value`, and `product-value` of two operators.
 -- Name after name, symbols go before a list; a polynomial before it is a multiple. An operator is known from its single terms.
-use Rattle.std.proofs.Common.{◌≡◌, refl, ℕ, zero, suc, ◌≤◌, subst, arith, ℤ, ◌*ℤ◌, List, [], ◌∷◌, sym, ◌∙◌, ap, ap₂}
-use Rattle.ct_algebra.specs.Group.{Group, IsHom, hom_zero}
-use Rattle.ct_algebra.specs.Terms.{sum_over}
-use Rattle.ct_algebra.specs.Laws.Terms.{IsAdditive}
-use Rattle.ct_algebra.specs.Sums.{lift, lift-⊕, lift-single, same_hom}
-use Rattle.ct_algebra.specs.Monomial.{Mono, monomials, exp, ◌·◌}
-use Rattle.ct_algebra.specs.WholeNumbers.{int_group}
-use Rattle.ct_algebra.specs.Names.{Name, name_with, place, power, times_over}
-use Rattle.ct_algebra.specs.Polynomial.{Polynomial, poly_set, times_is}
-use Rattle.ct_algebra.specs.Substitution.{P, term, term_is, term-sum, term-*}
-use Rattle.ct_algebra.specs.Actions.{Action}
-use Rattle.ct_algebra.specs.Operators.{Operator, operator_group, operator_set, term_of, symbol_before, multiple, product_of, product_of-sum_left}
-use Rattle.ct_algebra.proofs.OperatorTerms.{sums_are, term_of-single}
-use Rattle.ct_algebra.proofs.ProductRule.{operator_module, multiple-term_of, symbols_commute, product_of-term_of}
+use Rattle.ct_ore.proofs.Base.{◌≡◌, refl, ℕ, zero, suc, ◌≤◌, subst, arith, ℤ, ◌*ℤ◌, List, [], ◌∷◌, sym, ◌∙◌, ap, ap₂, Group, IsHom, hom_zero}
+use Rattle.ct_ore.proofs.Base.{sum_over, IsAdditive, lift, lift-⊕, lift-single, same_hom, Mono, monomials, exp, ◌·◌, int_group, Name, name_with}
+use Rattle.ct_ore.proofs.Base.{place, power, times_over, Polynomial, poly_set, times_is, P, term, term_is, term-sum, term-*, Action, Operator}
+use Rattle.ct_ore.proofs.Base.{operator_group, operator_set, term_of, symbol_before, multiple, product_of, product_of-sum_left, sums_are}
+use Rattle.ct_ore.proofs.Base.{term_of-single, operator_module, multiple-term_of, symbols_commute, product_of-term_of, place-name_with}
 use Rattle.ct_ore.specs.declared.coefficient_term.CoefficientTerm.{CoefficientTerm}
 use Rattle.ct_ore.specs.CoefficientTerms.{sum_of_parts, coefficient_terms}
 use Rattle.ct_ore.specs.PairTerms.{raised, expanded_below, expanded, multiplied, multiplied_by, product_terms}
-use Rattle.ct_poly.proofs.TermLists.{place-name_with}
 use Rattle.ct_ore.specs.AllNames.{number_of_names}
 use Rattle.ct_ore.proofs.ChangedExponents.{power_below, power-is}
 use Rattle.ct_ore.proofs.CoefficientSums.{sum_of_parts-append, sum_of_coefficients}

@@ -1,19 +1,16 @@
 -- The measure of all pairs, taken together for the terms of each coefficient of the left factor.
 -- Main lemmas `pairs_together`, by distributivity, and `no_symbols`: what the symbols 1 make of a list is the list.
-use Rattle.std.proofs.Common.{◌≡◌, refl, ℕ, zero, suc, ◌+◌, ◌*◌, ◌≤◌, Bool, true, false, ℤ, nat_abs, List, [], ◌∷◌, length, sum_by, sym, ◌∙◌, ap, ap₂, arith}
-use Rattle.std.proofs.lemmas.List.Sums.{sum_by-cons}
-use Rattle.ct_algebra.specs.Monomial.{Mono, exp, total}
-use Rattle.ct_algebra.specs.Names.{Name, name_with, place}
-use Rattle.ct_algebra.specs.Polynomial.{Polynomial, norm}
-use Rattle.ct_algebra.specs.Actions.{Action, Shift, Derive, Still}
+use Rattle.ct_ore.proofs.Base.{◌≡◌, refl, ℕ, zero, suc, ◌+◌, ◌*◌, ◌≤◌, Bool, true, false, ℤ, nat_abs, List, [], ◌∷◌, length, sum_by, sym, ◌∙◌, ap}
+use Rattle.ct_ore.proofs.Base.{ap₂, arith, sum_by-cons, Mono, exp, total, Name, name_with, place, Polynomial, norm, Action, Shift, Derive, Still}
+use Rattle.ct_ore.proofs.Base.{place-name_with}
 use Rattle.ct_ore.specs.declared.coefficient_term.CoefficientTerm.{CoefficientTerm}
 use Rattle.ct_ore.specs.declared.op.OpTerm.{OpTerm}
 use Rattle.ct_ore.specs.Terms.{op_entries}
 use Rattle.ct_ore.specs.CoefficientTerms.{size_of, all_terms}
-use Rattle.ct_poly.proofs.TermLists.{place-name_with}
 use Rattle.ct_ore.specs.AllNames.{number_of_names, over_below, total_below}
 use Rattle.ct_ore.specs.Kinds.{derivation_weight}
-use Rattle.ct_ore.specs.PairMeasures.{name_measure, names_measure, term_measure, symbols_measure, coefficient_measure, measure_of_row, measure_of_pairs}
+use Rattle.ct_ore.specs.PairMeasures.{name_measure, names_measure, term_measure, symbols_measure, coefficient_measure, measure_of_row}
+use Rattle.ct_ore.specs.PairMeasures.{measure_of_pairs}
 use Rattle.ct_ore.proofs.PairCounts.{sum_by-same, sum_by-scaled, scaled-sum, length-is}
 use Rattle.ct_ore.proofs.PairMeasureLaws.{six_total}
 use Rattle.ct_ore.proofs.ProductMeasures.{sum_by-all_terms}

@@ -1,10 +1,11 @@
 -- Binomial numbers and falling powers: what the count and the weight of a pair are made of.
 -- Main lemmas: `ways-next` (from the number before one term to the next, as code goes), `ways_in_all-is` (all of them add
 -- up to the weight), `derivation_weight-min`, `weight-positive` and `how_many-positive`. By induction over Pascal's rule.
-use Rattle.std.proofs.Common.{◌≡◌, refl, ℕ, zero, suc, ◌+◌, ◌-◌, ◌*◌, ◌^◌, ◌<◌, ◌≤◌, min, cond, Bool, true, false, sym, ◌∙◌, ap, ap₂, subst, arith, ltb, pow-suc, mul-zero, zero-mul, eq-or-lt_of_le, mul-pos, inl, inr, ◌⊎◌, lt-ltb}
-use native.Mathlib.Nat.{pow-zero}
-use Rattle.ct_algebra.specs.Actions.{Action, Shift, Derive, Still, by_action}
+use Rattle.ct_ore.proofs.Base.{◌≡◌, refl, ℕ, zero, suc, ◌+◌, ◌-◌, ◌*◌, ◌^◌, ◌<◌, ◌≤◌, min, cond, Bool, true, false, sym, ◌∙◌, ap, ap₂, subst, arith}
+use Rattle.ct_ore.proofs.Base.{ltb, pow-suc, mul-zero, zero-mul, eq-or-lt_of_le, mul-pos, inl, inr, ◌⊎◌, lt-ltb, Action, Shift, Derive, Still}
+use Rattle.ct_ore.proofs.Base.{by_action}
 use Rattle.ct_ore.specs.Kinds.{choose, falling_power, ways_below, derivation_weight, how_many, ways, weight}
+use native.Mathlib.Nat.{pow-zero}
 
 -- ---- past the end
 

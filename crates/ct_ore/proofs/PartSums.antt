@@ -1,14 +1,10 @@
 -- Sums of coefficient terms that are listed by a number, and sums that Pascal's rule makes longer.
 -- Main lemmas: `sum_of_parts-listed`, `sum_of_parts-each` (a map that respects sums, from what it makes of each term),
 -- `pascal` (two neighbours of each term add up to the terms of the next row) and `sum_below-trimmed`.
-use Rattle.std.proofs.Common.{◌≡◌, refl, ℕ, zero, suc, ◌+◌, ◌*◌, ◌<◌, ◌≤◌, ℤ, pos, ◌+ℤ◌, ◌*ℤ◌, List, [], ◌∷◌, sym, ◌∙◌, ap, ap₂, arith, eq-or-lt_of_le, inl, inr, ◌⊎◌}
-use Rattle.std.specs.Prelude.{flat_map}
-use Rattle.ct_algebra.specs.Group.{Group, IsHom, hom_zero}
-use Rattle.ct_algebra.specs.RangeSum.{sum_below}
-use Rattle.ct_algebra.specs.WholeNumbers.{times_plus}
+use Rattle.ct_ore.proofs.Base.{◌≡◌, refl, ℕ, zero, suc, ◌+◌, ◌*◌, ◌<◌, ◌≤◌, ℤ, pos, ◌+ℤ◌, ◌*ℤ◌, List, [], ◌∷◌, sym, ◌∙◌, ap, ap₂, arith}
+use Rattle.ct_ore.proofs.Base.{eq-or-lt_of_le, inl, inr, ◌⊎◌, flat_map, Group, IsHom, hom_zero, sum_below, times_plus, Operator, operator_group}
+use Rattle.ct_ore.proofs.Base.{sums_are}
 use Rattle.ct_algebra.specs.Laws.WholeNumbers.{int_mul_assoc}
-use Rattle.ct_algebra.specs.Operators.{Operator, operator_group}
-use Rattle.ct_algebra.proofs.OperatorTerms.{sums_are}
 use Rattle.ct_ore.specs.declared.coefficient_term.CoefficientTerm.{CoefficientTerm}
 use Rattle.ct_ore.specs.CoefficientTerms.{key, part, sum_of_parts}
 use Rattle.ct_ore.specs.PairTerms.{listed}

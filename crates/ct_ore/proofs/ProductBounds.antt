@@ -1,20 +1,13 @@
 -- Totals and sizes on the way of a product: each step stays within the measures of the whole.
 -- Main lemmas `way_fits`, `can_expand`, `can_scale`, `can_multiply_parts`. Cited by the code that makes the terms.
-use Rattle.std.proofs.Common.{◌≡◌, ℕ, zero, suc, ◌+◌, ◌-◌, ◌*◌, ◌<◌, ◌≤◌, ℤ, pos, ◌*ℤ◌, nat_abs, List, [], ◌∷◌, ◌++◌, sym, ◌∙◌, ap, subst, arith, eq-or-lt_of_le, mul-le-mul_left, mul-pos, ◌⊎◌, inl, inr}
-use Rattle.std.proofs.lemmas.List.Sums.{sum_by-append, sum_by_push}
-use Rattle.std.proofs.lemmas.Int.{unsigned_abs-mul}
-use Rattle.ct_algebra.specs.Monomial.{Mono, exp, total}
-use Rattle.ct_algebra.specs.Names.{Name, name_with}
-use Rattle.ct_algebra.specs.Terms.{EachTerm, EachTerm-weaker}
-use Rattle.ct_algebra.specs.Actions.{Action, Shift, Derive, Still}
-use Rattle.ct_algebra.specs.Polynomial.{Polynomial, degree_greatest, norm, norm_of}
-use Rattle.ct_checked.specs.Limits.{largest_degree, largest_norm}
-use Rattle.ct_mono.proofs.ExponentLaws.{total-with_exponent}
+use Rattle.ct_ore.proofs.Base.{◌≡◌, ℕ, zero, suc, ◌+◌, ◌-◌, ◌*◌, ◌<◌, ◌≤◌, ℤ, pos, ◌*ℤ◌, nat_abs, List, [], ◌∷◌, ◌++◌, sym, ◌∙◌, ap, subst, arith}
+use Rattle.ct_ore.proofs.Base.{eq-or-lt_of_le, mul-le-mul_left, mul-pos, ◌⊎◌, inl, inr, sum_by-append, sum_by_push, unsigned_abs-mul, Mono, exp}
+use Rattle.ct_ore.proofs.Base.{total, Name, name_with, EachTerm, EachTerm-weaker, Action, Shift, Derive, Still, Polynomial, degree_greatest, norm}
+use Rattle.ct_ore.proofs.Base.{norm_of, largest_degree, largest_norm, total-with_exponent, Option, Some, None}
 use Rattle.ct_ore.specs.declared.coefficient_term.CoefficientTerm.{CoefficientTerm}
 use Rattle.ct_ore.specs.CoefficientTerms.{size_of}
 use Rattle.ct_ore.specs.PairTerms.{listed, lowered_term, raised_term, raised, expanded_below, expanded, multiplied_by, product_terms}
 use Rattle.ct_ore.specs.Kinds.{how_many, ways, symbols_left}
-use Rattle.std.proofs.Common.{Option, Some, None}
 use Rattle.std.specs.Option.{unwrap_or}
 use Rattle.ct_ore.specs.AllNames.{number_of_names, total_below}
 use Rattle.ct_ore.specs.Bounds.{IsCapped, Within, EachWithin, CanRaise, CanExpandBelow, CanExpand, CanScale, HasRoom, CanMultiply}

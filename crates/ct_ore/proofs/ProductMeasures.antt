@@ -1,18 +1,9 @@
 -- How many terms a product makes, and how large they are: main lemmas `product_count-is` and `product_norm-is`, by `count-pairs`
 -- and `norm-pairs`, which say that the code's lists of terms have the pairs of the operators.
 -- What is done for some of the names, or for one term of the left factor, is no longer and no larger than the whole.
-use Rattle.std.proofs.Common.{◌≡◌, refl, Bool, true, false, ℕ, zero, suc, ◌<◌, ◌+◌, ◌*◌, ◌≤◌, ℤ, ◌*ℤ◌, nat_abs, List, [], ◌∷◌, map, length, sum_by, sym, ◌∙◌, ap, ap₂, arith, mul-zero}
-use Rattle.std.proofs.lemmas.Int.{unsigned_abs-mul}
-use Rattle.std.proofs.lemmas.List.Concat.{length-flat_map}
-use Rattle.std.proofs.lemmas.List.Sums.{sum_by-cons}
-use Rattle.ct_algebra.specs.Monomial.{Mono, exp, ◌·◌}
-use Rattle.ct_algebra.specs.Names.{Name, place, place_small, name_with}
-use Rattle.ct_algebra.specs.Polynomial.{Polynomial}
-use Rattle.ct_algebra.specs.Actions.{Action}
-use Rattle.ct_algebra.specs.Operators.{Operator}
-use Rattle.ct_mono.specs.Exponents.{with_exponent}
-use Rattle.ct_mono.proofs.ExponentLaws.{exp-with_exponent_other}
-use Rattle.ct_poly.proofs.TermLists.{place-name_with}
+use Rattle.ct_ore.proofs.Base.{◌≡◌, refl, Bool, true, false, ℕ, zero, suc, ◌<◌, ◌+◌, ◌*◌, ◌≤◌, ℤ, ◌*ℤ◌, nat_abs, List, [], ◌∷◌, map, length, sum_by}
+use Rattle.ct_ore.proofs.Base.{sym, ◌∙◌, ap, ap₂, arith, mul-zero, unsigned_abs-mul, length-flat_map, sum_by-cons, Mono, exp, ◌·◌, Name, place}
+use Rattle.ct_ore.proofs.Base.{place_small, name_with, Polynomial, Action, Operator, with_exponent, exp-with_exponent_other, place-name_with}
 use Rattle.ct_ore.specs.AllNames.{number_of_names, over_below, over_names}
 use Rattle.ct_ore.specs.declared.coefficient_term.CoefficientTerm.{CoefficientTerm}
 use Rattle.ct_ore.specs.CoefficientTerms.{size_of, row_of, all_terms, coefficient_terms}

@@ -1,23 +1,12 @@
 -- A product that no rule refuses: its terms can be made, and what they add up to is the product.
 -- Main lemmas `none_fits` (what holds where no rule is broken), `can_multiply`, `answers_value`. Cited by the product of operators
 -- and, with `fits_none`, `zero_left_fits` and `zero_right_fits`, by the laws.
-use Rattle.std.proofs.Common.{◌≡◌, ◌≢◌, refl, ℕ, ◌+◌, ◌*◌, ◌<◌, ◌≤◌, cond, Bool, true, false, ℤ, nat_abs, List, [], ◌∷◌, map, length, sym, ◌∙◌, ap, ap₂, subst, arith, Some, None, Option, Ok, Err, T, ltb-false, le-ltb, IsTrue}
-use Rattle.std.proofs.lemmas.List.Sums.{sum_by-cons}
-use Rattle.ct_algebra.specs.Group.{none_added}
-use Rattle.ct_algebra.specs.Terms.{EachTerm, IsCanonical}
-use Rattle.ct_algebra.specs.Sums.{has_none, same_terms}
-use Rattle.ct_algebra.specs.WholeNumbers.{int_group}
-use Rattle.ct_algebra.specs.Monomial.{Mono, total, monomials}
-use Rattle.ct_algebra.specs.Names.{Name}
-use Rattle.ct_algebra.specs.Actions.{Action}
-use Rattle.ct_algebra.specs.Polynomial.{Polynomial, polys, degree, degree_greatest, norm, norm_of}
-use Rattle.ct_algebra.specs.Operators.{Operator, operator_group, no_operator, product_of, product_of-sum, sum_of_operators}
-use Rattle.ct_algebra.proofs.OperatorTerms.{sums_are, none_is}
+use Rattle.ct_ore.proofs.Base.{◌≡◌, ◌≢◌, refl, ℕ, ◌+◌, ◌*◌, ◌<◌, ◌≤◌, cond, Bool, true, false, ℤ, nat_abs, List, [], ◌∷◌, map, length, sym, ◌∙◌, ap}
+use Rattle.ct_ore.proofs.Base.{ap₂, subst, arith, Some, None, Option, Ok, Err, T, ltb-false, le-ltb, IsTrue, sum_by-cons, none_added, EachTerm}
+use Rattle.ct_ore.proofs.Base.{IsCanonical, has_none, same_terms, int_group, Mono, total, monomials, Name, Action, Polynomial, polys, degree}
+use Rattle.ct_ore.proofs.Base.{degree_greatest, norm, norm_of, Operator, operator_group, no_operator, product_of, product_of-sum, sum_of_operators}
+use Rattle.ct_ore.proofs.Base.{sums_are, none_is, verdict, largest_degree, Kind, broken}
 use Rattle.ct_algebra.proofs.AppliedOperators.{no_operator-product_of}
-use Rattle.ct_checked.specs.Checked.{verdict}
-use Rattle.ct_checked.specs.Limits.{largest_degree}
-use Rattle.ct_checked.specs.declared.fault.Kind.{Kind}
-use Rattle.ct_poly.specs.Measures.{broken}
 use Rattle.ct_ore.specs.declared.coefficient_term.CoefficientTerm.{CoefficientTerm}
 use Rattle.ct_ore.specs.CoefficientTerms.{sum_of_parts, size_of, row_of, all_terms, coefficient_terms}
 use Rattle.ct_ore.specs.Measures.{greatest, coefficient_degree, order_of, product_overflow, checked_product}

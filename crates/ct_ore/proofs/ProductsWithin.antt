@@ -1,17 +1,9 @@
 -- A product is within the measures of its factors. Main lemma `product_within`, which the laws cite: the product is the sum of
 -- the terms that its pairs make, so it has at most as many and no larger ones, each within the orders and degrees of both factors.
-use Rattle.std.proofs.Common.{ℕ, ◌+◌, ◌<◌, ◌≤◌, ℤ, nat_abs, List, [], ◌∷◌, length, map, sym, ◌∙◌, ap, subst, subst₂, arith, mul-pos}
-use Rattle.std.proofs.lemmas.Int.{unsigned_abs-mul}
-use Rattle.std.proofs.lemmas.List.Sums.{sum_by-cons}
-use Rattle.ct_algebra.specs.Monomial.{Mono, monomials, total, total-·}
-use Rattle.ct_algebra.specs.Names.{Name}
-use Rattle.ct_algebra.specs.Actions.{Action}
-use Rattle.ct_algebra.specs.Polynomial.{Polynomial, count, norm, degree, degree_greatest, norm_of, degree_of}
-use Rattle.ct_algebra.specs.Operators.{Operator, no_operator, product_of}
-use Rattle.ct_algebra.specs.Sums.{none}
-use Rattle.ct_algebra.specs.Terms.{EachTerm, IsCanonical}
-use Rattle.ct_algebra.specs.WholeNumbers.{int_group}
-use Rattle.ct_algebra.proofs.OperatorTerms.{sums_are, none_is}
+use Rattle.ct_ore.proofs.Base.{ℕ, ◌+◌, ◌<◌, ◌≤◌, ℤ, nat_abs, List, [], ◌∷◌, length, map, sym, ◌∙◌, ap, subst, subst₂, arith, mul-pos}
+use Rattle.ct_ore.proofs.Base.{unsigned_abs-mul, sum_by-cons, Mono, monomials, total, total-·, Name, Action, Polynomial, count, norm, degree}
+use Rattle.ct_ore.proofs.Base.{degree_greatest, norm_of, degree_of, Operator, no_operator, product_of, none, EachTerm, IsCanonical, int_group}
+use Rattle.ct_ore.proofs.Base.{sums_are, none_is}
 use Rattle.ct_ore.specs.declared.coefficient_term.CoefficientTerm.{CoefficientTerm}
 use Rattle.ct_ore.specs.CoefficientTerms.{sum_of_parts, size_of, coefficient_terms}
 use Rattle.ct_ore.specs.Measures.{term_count, term_norm, greatest, coefficient_degree, order_of, product_count, product_norm}

@@ -1,10 +1,7 @@
 -- The first terms with given symbols, found by halving: main lemmas `same_before`, `other_at`.
 -- In a list in written form symbols fall, so what stands between terms with the same symbols has these too.
-use Rattle.std.proofs.Common.{◌≡◌, ◌≢◌, refl, ℕ, zero, suc, ◌<◌, Ordering, Less, Equal, Greater, List, [], ◌∷◌, length, get_or, take, drop, sym, ◌∙◌, ap, subst, arith}
-use Rattle.std.specs.Ordering.{ordering_then}
-use Rattle.ct_algebra.specs.Laws.Terms.{less_is}
-use Rattle.ct_algebra.specs.Monomial.{Mono, monomials, mono_cmp, mono_tied}
-use Rattle.ct_algebra.specs.WholeNumbers.{int_group}
+use Rattle.ct_ore.proofs.Base.{◌≡◌, ◌≢◌, refl, ℕ, zero, suc, ◌<◌, Ordering, Less, Equal, Greater, List, [], ◌∷◌, length, get_or, take, drop, sym, ◌∙◌}
+use Rattle.ct_ore.proofs.Base.{ap, subst, arith, ordering_then, less_is, Mono, monomials, mono_cmp, mono_tied, int_group}
 use Rattle.ct_ore.specs.declared.coefficient_term.CoefficientTerm.{CoefficientTerm}
 use Rattle.ct_ore.specs.CoefficientTerms.{by_parts, pair_cmp, pair_cmp_is, key, IsWritten}
 use Rattle.ct_ore.specs.Lists.{AllHave, StartsOther}

@@ -1,28 +1,20 @@
 -- What k shifts by a name make of a power of the name: main lemma `shifts-power`, the row of the binomial.
 -- By induction on the power: a factor more goes from row to row by Pascal's rule, since shifts respect products.
-use Rattle.std.proofs.Common.{◌≡◌, refl, ℕ, zero, suc, ◌+◌, ◌-◌, ◌*◌, ◌^◌, ◌<◌, ℤ, pos, ◌+ℤ◌, ◌*ℤ◌, cond, sym, ◌∙◌, ap, ap₂, subst, arith, eq-eqb, pow-suc, zero-mul}
-use native.Mathlib.Nat.{pow-zero}
-use lib.IntN.{*ℤ_comm}
-use Rattle.ct_algebra.specs.Group.{zero_add}
-use Rattle.ct_algebra.specs.Laws.RangeSums.{sum_below-same, mul-sum_below}
-use Rattle.ct_algebra.specs.RangeSum.{sum_below}
+use Rattle.ct_ore.proofs.Base.{◌≡◌, refl, ℕ, zero, suc, ◌+◌, ◌-◌, ◌*◌, ◌^◌, ◌<◌, ℤ, pos, ◌+ℤ◌, ◌*ℤ◌, cond, sym, ◌∙◌, ap, ap₂, subst, arith, eq-eqb}
+use Rattle.ct_ore.proofs.Base.{pow-suc, zero-mul, zero_add, sum_below-same, mul-sum_below, sum_below, EachTerm-single, Mono, monomials, unit, ◌·◌}
+use Rattle.ct_ore.proofs.Base.{int_group, Name, place, place_small, symbol, times_over, Polynomial, polys, P, term, term_is, term-sum, term-*, name}
+use Rattle.ct_ore.proofs.Base.{name_is, number, number_is, number-*, number-sum, times_one, IsRingHom, shift, shift_ring_hom, shift-name, one_step}
+use Rattle.ct_ore.proofs.Base.{with_exponent, exp-with_exponent_same}
 use Rattle.ct_algebra.specs.Ring.{add_mul}
-use Rattle.ct_algebra.specs.Sums.{EachTerm-single}
-use Rattle.ct_algebra.specs.Monomial.{Mono, monomials, unit, ◌·◌}
-use Rattle.ct_algebra.specs.WholeNumbers.{int_group}
-use Rattle.ct_algebra.specs.Names.{Name, place, place_small, symbol, times_over}
-use Rattle.ct_algebra.specs.Polynomial.{Polynomial, polys}
-use Rattle.ct_algebra.specs.Substitution.{P, term, term_is, term-sum, term-*, name, name_is, number, number_is, number-*, number-sum, times_one, IsRingHom, shift, shift_ring_hom, shift-name}
 use Rattle.ct_algebra.specs.Derivative.{zero_term, none_times}
-use Rattle.ct_algebra.specs.Actions.{one_step}
 use Rattle.ct_algebra.specs.FreeOf.{IsWithout, IsFreeOf}
 use Rattle.ct_algebra.proofs.FreeOfLaws.{shift-free}
-use Rattle.ct_mono.specs.Exponents.{with_exponent}
-use Rattle.ct_mono.proofs.ExponentLaws.{exp-with_exponent_same}
 use Rattle.ct_ore.specs.Kinds.{choose}
 use Rattle.ct_ore.proofs.ChangedExponents.{symbol-with}
 use Rattle.ct_ore.proofs.PairWeightLaws.{choose-past}
 use Rattle.ct_ore.proofs.PartSums.{number_step, pascal}
+use native.Mathlib.Nat.{pow-zero}
+use lib.IntN.{*ℤ_comm}
 
 -- a number taken no times makes no term
 pub none_of_them : (m : Mono) (c : ℤ) (n : ℕ) → n ≡ 0 → term m (c *ℤ pos n) ≡ polys.zero

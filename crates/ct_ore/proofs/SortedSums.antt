@@ -1,16 +1,10 @@
 -- Lists in written form with the sum of another list: of one that is in this form, and of two parts that are merged.
 -- Main lemmas `front_walked`, `sum_of_itself` and `sum_of_both`. Cited by the sort.
-use Rattle.std.proofs.Common.{◌≡◌, refl, ℕ, ◌+◌, ◌-◌, ◌<◌, ◌≤◌, pos, negsuc, zero, suc, ℤ, nat_abs, List, [], ◌∷◌, ◌++◌, length, take, get_or, sym, ◌∙◌, ap, ap₂, subst, arith, length-append, append_assoc, T, cond, true, false, Less}
+use Rattle.ct_ore.proofs.Base.{◌≡◌, refl, ℕ, ◌+◌, ◌-◌, ◌<◌, ◌≤◌, pos, negsuc, zero, suc, ℤ, nat_abs, List, [], ◌∷◌, ◌++◌, length, take, get_or, sym}
+use Rattle.ct_ore.proofs.Base.{◌∙◌, ap, ap₂, subst, arith, length-append, append_assoc, T, cond, true, false, Less, sum_by-append, EachTerm}
+use Rattle.ct_ore.proofs.Base.{IsCanonical, is_less, merged, IsCanonical-merged, ◌⊕◌, EachTerm-⊕, total, int_group, int_is_zero, sum_of_operators}
+use Rattle.ct_ore.proofs.Base.{behind, largest_norm}
 use Rattle.std.proofs.Math.Seq.{take-append_seam, take-length}
-use Rattle.std.proofs.lemmas.List.Sums.{sum_by-append}
-use Rattle.ct_algebra.specs.Terms.{EachTerm, IsCanonical, is_less, merged}
-use Rattle.ct_algebra.specs.Laws.Terms.{IsCanonical-merged}
-use Rattle.ct_algebra.specs.Sums.{◌⊕◌, EachTerm-⊕}
-use Rattle.ct_algebra.specs.Monomial.{total}
-use Rattle.ct_algebra.specs.WholeNumbers.{int_group, int_is_zero}
-use Rattle.ct_algebra.specs.Operators.{sum_of_operators}
-use Rattle.ct_algebra.proofs.Merging.{behind}
-use Rattle.ct_checked.specs.Limits.{largest_norm}
 use Rattle.ct_ore.specs.declared.coefficient_term.CoefficientTerm.{CoefficientTerm}
 use Rattle.ct_ore.specs.CoefficientTerms.{by_parts, pair_cmp, key, keyed, size_of, sum_of_parts, IsWritten}
 use Rattle.ct_ore.specs.PairMeasures.{HasNumbers}

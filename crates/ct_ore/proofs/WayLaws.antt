@@ -1,7 +1,7 @@
 -- What the code that computes the numbers before the terms of a pair needs of them: a quotient that is exact, and that no
 -- number is larger than the weight. Main lemmas `exact_quotient`, `way-le-weight`.
-use Rattle.std.specs.Prelude.{◌≡◌, refl, ℕ, zero, suc, ◌+◌, ◌-◌, ◌*◌, ◌/◌, ◌%◌, ◌<◌, ◌≤◌, eqb, false, ◌⊎◌}
-use Rattle.std.proofs.Common.{◌∙◌, ap, arith, inl, inr}
+use Rattle.ct_ore.proofs.Base.{◌≡◌, ℕ, zero, suc, ◌+◌, ◌-◌, ◌*◌, ◌/◌, ◌%◌, ◌<◌, ◌≤◌, eqb, false, ◌⊎◌, ◌∙◌, ap, arith, inl, inr}
+use Rattle.std.specs.Prelude.{refl}
 use Rattle.std.proofs.lemmas.Nat.{div-add-mod', div-mul-add, le-div}
 use Rattle.ct_ore.specs.Kinds.{choose, falling_power, ways_below, derivation_weight}
 use Rattle.ct_ore.proofs.PairWeightLaws.{choose-past}

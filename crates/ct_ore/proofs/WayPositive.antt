@@ -1,7 +1,6 @@
 -- The numbers before the terms of a pair are positive up to the last. Main lemma `ways-positive`.
-use Rattle.std.proofs.Common.{ℕ, zero, suc, ◌+◌, ◌<◌, ◌≤◌, ltb, cond, Bool, true, false, sym, subst, arith, lit<, mul-pos}
-use Rattle.std.proofs.Math.Nat.{pow-zero}
-use Rattle.ct_algebra.specs.Actions.{Action, Shift, Derive, Still}
+use Rattle.ct_ore.proofs.Base.{ℕ, zero, suc, ◌+◌, ◌<◌, ◌≤◌, ltb, cond, Bool, true, false, sym, subst, arith, lit<, mul-pos, pow-zero, Action, Shift}
+use Rattle.ct_ore.proofs.Base.{Derive, Still}
 use Rattle.ct_ore.specs.Kinds.{choose, falling_power, how_many, ways}
 use Rattle.ct_ore.proofs.PairWeightLaws.{power_positive}
 

@@ -1,23 +1,13 @@
 -- Common divisors of a number and the coefficients of an operator, and its quotients by numbers that divide all of these.
 -- Main lemmas `common_is` and `common_only` (the greatest common divisor is the one whose divisors are the common ones), the
 -- steps of the loop (`gathers_more` ..), and `over_fits`, `over_listed`: the terms over a number are those of the quotient.
-use Rattle.std.proofs.Common.{◌≡◌, ◌↔◌, refl, ℕ, ◌<◌, ◌≤◌, ℤ, pos, nat_abs, true, false, cond, T, List, [], ◌∷◌, ◌++◌, map, length, length-append, sym, ◌∙◌, ap, ap₂, subst, arith}
-use Rattle.std.specs.Int.{◌∣◌, IsGcd}
-use Rattle.std.proofs.lemmas.List.Sums.{sum_by-append}
-use Rattle.std.proofs.lemmas.Nat.Gcd.{le_of_dvd, dvd_refl, dvd_trans}
-use Rattle.std.proofs.Math.Nat.{eq-one_of_dvd-one, eq-zero_of_zero-dvd, pos_of_ne-zero, one-dvd}
-use Rattle.ct_algebra.specs.Monomial.{Mono, monomials, unit}
-use Rattle.ct_algebra.specs.Polynomial.{Polynomial, polys, norm_of}
-use Rattle.ct_algebra.specs.Sums.{has_none}
-use Rattle.ct_algebra.specs.Terms.{AllBelow, IsCanonical}
-use Rattle.ct_algebra.specs.WholeNumbers.{int_group}
-use Rattle.ct_algebra.specs.Operators.{Operator, operator_of}
-use Rattle.ct_algebra.proofs.OperatorLawProofs as operator_laws
-use Rattle.ct_checked.specs.Limits.{most_terms, largest_norm}
-use Rattle.ct_poly.specs.Content.{DividesAll, DividesEach, IsContentOf, content, divided}
+use Rattle.ct_ore.proofs.Base.{◌≡◌, ◌↔◌, refl, ℕ, ◌<◌, ◌≤◌, ℤ, pos, nat_abs, true, false, cond, T, List, [], ◌∷◌, ◌++◌, map, length, length-append}
+use Rattle.ct_ore.proofs.Base.{sym, ◌∙◌, ap, ap₂, subst, arith, ◌∣◌, IsGcd, sum_by-append, le_of_dvd, dvd_refl, dvd_trans, eq-one_of_dvd-one}
+use Rattle.ct_ore.proofs.Base.{eq-zero_of_zero-dvd, pos_of_ne-zero, one-dvd, Mono, monomials, unit, Polynomial, polys, norm_of, has_none, AllBelow}
+use Rattle.ct_ore.proofs.Base.{IsCanonical, int_group, Operator, operator_of, most_terms, largest_norm, DividesAll, DividesEach, IsContentOf, content}
+use Rattle.ct_ore.proofs.Base.{divided, each_divides, divided_by_one}
 use Rattle.ct_poly.proofs.Contents.{content_is, greatest_within, some_content}
 use Rattle.ct_poly.proofs.DividedTerms.{quotients, divided_terms, length-quotients, size-quotients}
-use Rattle.ct_poly.proofs.WholeDivisors.{each_divides, divided_by_one}
 use Rattle.ct_ore.specs.declared.coefficient_term.CoefficientTerm.{CoefficientTerm}
 use Rattle.ct_ore.specs.declared.op.OpTerm.{OpTerm}
 use Rattle.ct_ore.specs.Terms.{op_entries}
@@ -28,6 +18,7 @@ use Rattle.ct_ore.specs.Wholes.{DividesTerms, DividesOperator, IsCommonDivisor, 
 use Rattle.ct_ore.proofs.OperatorMeasures.{count-coefficient_terms, norm-coefficient_terms, length-row, size-row}
 use Rattle.ct_ore.proofs.WrittenForm.{coefficients_written}
 use Rattle.ct_ore.proofs.WrittenOperators.{terms-operator_of}
+use Rattle.ct_algebra.proofs.OperatorLawProofs as operator_laws
 
 -- ---- the greatest common divisor
 

@@ -1,19 +1,12 @@
 -- Multiples of operators by whole numbers: a multiple of a multiple, and of a sum, and of the quotient by the same number.
 -- Main lemmas `scaled_twice`, `scaled-sum` and `scaled_quotient`.
-use Rattle.std.proofs.Common.{◌≡◌, ℕ, ◌*◌, pos, ◌*ℤ◌, List, [], ◌∷◌, map, sym, ◌∙◌, ap, ap₂}
-use Rattle.ct_algebra.specs.Monomial.{Mono, unit, ·-unit}
-use Rattle.ct_algebra.specs.Names.{Name}
-use Rattle.ct_algebra.specs.Actions.{Action}
-use Rattle.ct_algebra.specs.Polynomial.{Polynomial, times, times_is}
-use Rattle.ct_algebra.specs.Substitution.{number, number_is, term, term-*}
-use Rattle.ct_algebra.specs.Operators.{Operator, operator_of, term_of, sum_of_operators, product_of, product_of_assoc, product_of-sum}
-use Rattle.ct_algebra.proofs.OperatorLawProofs as operator_laws
-use Rattle.ct_algebra.proofs.ProductRule.{multiple-term_of, product_of-polynomial}
-use Rattle.ct_poly.specs.Content.{divided}
+use Rattle.ct_ore.proofs.Base.{◌≡◌, ℕ, ◌*◌, pos, ◌*ℤ◌, List, [], ◌∷◌, map, sym, ◌∙◌, ap, ap₂, Mono, unit, ·-unit, Name, Action, Polynomial, times}
+use Rattle.ct_ore.proofs.Base.{times_is, number, number_is, term, term-*, Operator, operator_of, term_of, sum_of_operators, product_of}
+use Rattle.ct_ore.proofs.Base.{product_of_assoc, product_of-sum, multiple-term_of, product_of-polynomial, divided, each_divides}
 use Rattle.ct_poly.proofs.DividedTerms.{divided_whole}
-use Rattle.ct_poly.proofs.WholeDivisors.{each_divides}
 use Rattle.ct_ore.specs.Wholes.{DividesTerms, DividesOperator, entry_over, over_whole, whole_operator}
 use Rattle.ct_ore.proofs.ProductRules.{product_of-none}
+use Rattle.ct_algebra.proofs.OperatorLawProofs as operator_laws
 
 times_numbers : (m n : ℕ) → times (number (pos m)) (number (pos n)) ≡ number (pos (m * n))
 times_numbers m n =

@@ -1,19 +1,9 @@
 -- An operator times a whole number, by the rules of products. Main lemmas `once` (times 1 it is itself) and `multiple_is`:
 -- within the limits the rule of products asks for the norm alone, since a number has no degree and makes one term of each.
-use Rattle.std.proofs.Common.{◌≡◌, ◌≢◌, refl, ℕ, zero, suc, ◌+◌, ◌*◌, ◌<◌, ◌≤◌, le-ltb, ltb, cond, T, true, false, ℤ, Bool, pos, Option, None, Ok, List, [], ◌∷◌, length, sym, ◌∙◌, ap, ap₂, arith}
-use Rattle.ct_algebra.specs.Monomial.{Mono, unit}
-use Rattle.ct_algebra.specs.Names.{Name}
-use Rattle.ct_algebra.specs.Actions.{Action}
-use Rattle.ct_algebra.specs.Polynomial.{Polynomial, polys, norm, norm_of, degree, degree_of}
-use Rattle.ct_algebra.specs.Substitution.{number, number_is, one_is}
-use Rattle.ct_algebra.specs.WholeNumbers.{int_is_zero}
-use Rattle.ct_algebra.specs.Operators.{Operator, term_of, product_of}
-use Rattle.ct_algebra.proofs.ProductRule.{one-product_of}
-use Rattle.ct_checked.specs.Checked.{verdict}
-use Rattle.ct_checked.specs.Limits.{largest_degree, most_terms, largest_norm}
-use Rattle.ct_checked.specs.declared.fault.Kind.{Kind}
-use Rattle.ct_checked.specs.declared.fault.Kind.TheVariants.{Number}
-use Rattle.ct_poly.specs.Measures.{broken}
+use Rattle.ct_ore.proofs.Base.{◌≡◌, ◌≢◌, refl, ℕ, zero, suc, ◌+◌, ◌*◌, ◌<◌, ◌≤◌, le-ltb, ltb, cond, T, true, false, ℤ, Bool, pos, Option, None, Ok}
+use Rattle.ct_ore.proofs.Base.{List, [], ◌∷◌, length, sym, ◌∙◌, ap, ap₂, arith, Mono, unit, Name, Action, Polynomial, polys, norm, norm_of, degree}
+use Rattle.ct_ore.proofs.Base.{degree_of, number, number_is, one_is, int_is_zero, Operator, term_of, product_of, one-product_of, verdict}
+use Rattle.ct_ore.proofs.Base.{largest_degree, most_terms, largest_norm, Kind, Number, broken}
 use Rattle.ct_ore.specs.CoefficientTerms.{all_terms, coefficient_terms}
 use Rattle.ct_ore.specs.Measures.{term_count, term_norm, coefficient_degree, order_of, product_count, product_norm, product_overflow, checked_product}
 use Rattle.ct_ore.specs.PairMeasures.{coefficient_measure, symbols_measure, measure_of_pairs}

@@ -1,18 +1,10 @@
 -- The written form of an operator as one list of coefficient terms. Main lemmas: `coefficients_written` (the coefficient
 -- terms of an operator are in written form) and `coefficients_of_sum` (a list in written form is the coefficient terms of
 -- its sum). Values at keys tell two such lists apart.
-use Rattle.std.specs.Prelude.{◌≡◌, refl, ℤ, T, List, [], ◌∷◌, ◌++◌, map}
-use Rattle.std.proofs.Common.{sym, ◌∙◌, ap, ap₂, subst, Ordering, Less, Equal, Greater}
-use Rattle.std.specs.Ordering.{ordering_then}
-use Rattle.ct_algebra.specs.Terms.{by_order, is_less, sum_over, pick, value_at, AllBelow, IsCanonical}
-use Rattle.ct_algebra.specs.Laws.Terms.{same_list, less_is}
-use Rattle.ct_algebra.specs.Sums.{at, at-⊕, at-none, at-single}
-use Rattle.ct_algebra.specs.WholeNumbers.{int_group}
-use Rattle.ct_algebra.specs.Monomial.{Mono, monomials, mono_cmp, mono_same}
-use Rattle.ct_algebra.specs.Polynomial.{Polynomial, polys}
-use Rattle.ct_algebra.specs.Substitution.{term, term_is}
-use Rattle.ct_algebra.specs.Operators.{Operator, operator_group}
-use Rattle.ct_algebra.proofs.OperatorTerms.{at-term_of}
+use Rattle.ct_ore.proofs.Base.{◌≡◌, ℤ, T, List, [], ◌∷◌, ◌++◌, map, sym, ◌∙◌, ap, ap₂, subst, Ordering, Less, Equal, Greater, ordering_then, by_order}
+use Rattle.ct_ore.proofs.Base.{is_less, sum_over, pick, value_at, AllBelow, IsCanonical, same_list, less_is, at, at-⊕, at-none, at-single, int_group}
+use Rattle.ct_ore.proofs.Base.{Mono, monomials, mono_cmp, mono_same, Polynomial, polys, term, term_is, Operator, operator_group, at-term_of}
+use Rattle.std.specs.Prelude.{refl}
 use Rattle.ct_ore.specs.declared.coefficient_term.CoefficientTerm.{CoefficientTerm}
 use Rattle.ct_ore.specs.CoefficientTerms.{by_parts, pair_cmp, pair_cmp_is, keyed, part, sum_of_parts, IsWritten, row_of, all_terms, coefficient_terms}
 use Rattle.ct_ore.proofs.CoefficientSums.{sum_of_coefficients}

@@ -1,12 +1,8 @@
 -- What a list of terms in code says of the operator that it stands for: its terms and its measures.
 -- Main lemmas `terms_of`, `is_none`, `value_of_terms`. A canonical list is the terms of its operator.
-use Rattle.std.proofs.Common.{◌≡◌, ◌↔◌, refl, List, [], ◌∷◌, ◌++◌, length, sym, ◌∙◌, ap, subst, arith}
-use Rattle.ct_algebra.specs.Terms.{IsCanonical}
-use Rattle.ct_algebra.specs.Laws.Terms.{same_list, IsCanonical-merged, sum_over-merged, pick-IsAdditive}
-use Rattle.ct_algebra.specs.Sums.{same_terms, sum_of, none}
-use Rattle.ct_algebra.specs.Monomial.{Mono, monomials}
-use Rattle.ct_algebra.specs.Polynomial.{Polynomial, polys}
-use Rattle.ct_algebra.specs.Operators.{Operator, operator_of, no_operator}
+use Rattle.ct_ore.proofs.Base.{◌≡◌, ◌↔◌, refl, List, [], ◌∷◌, ◌++◌, length, sym, ◌∙◌, ap, subst, arith, IsCanonical, same_list, IsCanonical-merged}
+use Rattle.ct_ore.proofs.Base.{sum_over-merged, pick-IsAdditive, same_terms, sum_of, none, Mono, monomials, Polynomial, polys, Operator, operator_of}
+use Rattle.ct_ore.proofs.Base.{no_operator}
 use Rattle.ct_ore.specs.declared.op.OpTerm.{OpTerm}
 use Rattle.ct_ore.specs.Terms.{op_entries, operator_of_terms, IsOperator}
 

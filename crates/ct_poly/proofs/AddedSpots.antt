@@ -1,10 +1,8 @@
 -- The loop that adds spots to cells: main lemmas `sum_fits` and `one_added`, which `add_multiple` cites.
 -- The size of the cells grows by no more than the size of what is added, so no cell passes the limit.
-use Rattle.std.proofs.Common.{rules, arith, ◌≡◌, ℕ, ℤ, pos, suc, ◌+◌, ◌*◌, ◌+ℤ◌, ◌*ℤ◌, ◌<◌, ◌≤◌, All, length, nat_abs, List, ◌∷◌, slice_index_or, slice_set, subst, sym, ap, ◌∙◌}
-use Rattle.std.proofs.lemmas.List.Sums.{sum_by-set, sum_by-cons, get_or-le-sum_by}
+use Rattle.ct_poly.proofs.Base.{rules, arith, ◌≡◌, ℕ, ℤ, pos, suc, ◌+◌, ◌*◌, ◌+ℤ◌, ◌*ℤ◌, ◌<◌, ◌≤◌, All, length, nat_abs, List, ◌∷◌, slice_index_or}
+use Rattle.ct_poly.proofs.Base.{slice_set, subst, sym, ap, ◌∙◌, sum_by-set, sum_by-cons, get_or-le-sum_by, unsigned_abs-mul, ints, largest_norm}
 use Rattle.std.proofs.Math.Seq.{lt-length-set}
-use Rattle.std.proofs.lemmas.Int.{unsigned_abs-mul, ints}
-use Rattle.ct_checked.specs.Limits.{largest_norm}
 use Rattle.ct_poly.specs.Cells.{added, size_of_cells, size_of_spots}
 use Rattle.ct_poly.specs.declared.cells.Spot.{Spot}
 

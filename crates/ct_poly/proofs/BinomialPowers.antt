@@ -1,18 +1,11 @@
 -- The power e of a name plus a positive number has at most e + 1 terms, all of them powers of the name up to e.
 -- Main lemmas `power_few` and `power_low`, which shifts cite; `first_is_power` and `next_is_power` are the rows of a table.
 -- The terms of the next power are the name times those of this one, and the number times them.
-use Rattle.std.proofs.Common.{◌≡◌, refl, ℕ, zero, suc, ◌+◌, ◌≤◌, ◌<◌, ℤ, pos, List, [], ◌∷◌, length, sym, ◌∙◌, ap, ap₂, subst, arith, Ordering, Less, Equal}
-use Rattle.ct_algebra.specs.Monomial.{Mono, monomials, mono_cmp, mono_same, exp-unit, unit, ◌·◌, ·_comm, ·-unit, total, total-·, total_of_less}
-use Rattle.ct_algebra.specs.Names.{name_with, symbol}
-use Rattle.ct_algebra.specs.Polynomial.{Polynomial, polys, count, plus, plus_is, times, times_is}
-use Rattle.ct_algebra.specs.Ring.{add_mul}
-use Rattle.ct_algebra.specs.Sums.{EachTerm-⊕, EachTerm-single}
-use Rattle.ct_algebra.specs.Substitution.{term, term_is, name_is, number_is, one_is}
-use Rattle.ct_algebra.specs.Terms.{EachTerm, IsCanonical, AllBelow}
-use Rattle.ct_algebra.specs.Laws.Terms.{less_is}
-use Rattle.ct_algebra.specs.WholeNumbers.{int_group}
-use Rattle.ct_algebra.proofs.TermLists.{row_of}
-use Rattle.ct_mono.proofs.ExponentLaws.{one_exponent, total-unit, total-with_exponent}
+use Rattle.ct_poly.proofs.Base.{◌≡◌, refl, ℕ, zero, suc, ◌+◌, ◌≤◌, ◌<◌, ℤ, pos, List, [], ◌∷◌, length, sym, ◌∙◌, ap, ap₂, subst, arith, Ordering}
+use Rattle.ct_poly.proofs.Base.{Less, Equal, Mono, monomials, mono_cmp, mono_same, exp-unit, unit, ◌·◌, ·_comm, ·-unit, total, total-·, total_of_less}
+use Rattle.ct_poly.proofs.Base.{name_with, symbol, Polynomial, polys, count, plus, plus_is, times, times_is, add_mul, EachTerm-⊕, EachTerm-single}
+use Rattle.ct_poly.proofs.Base.{term, term_is, name_is, number_is, one_is, EachTerm, IsCanonical, AllBelow, less_is, int_group, row_of, one_exponent}
+use Rattle.ct_poly.proofs.Base.{total-unit, total-with_exponent}
 use Rattle.ct_poly.specs.declared.term.Term.{Term}
 use Rattle.ct_poly.specs.Terms.{entries, greatest_total}
 use Rattle.ct_poly.specs.Powers.{binomial, power_of, IsPower}

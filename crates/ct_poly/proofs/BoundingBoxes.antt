@@ -1,12 +1,8 @@
 -- Boxes that have the monomials of a list: main lemmas `bounding_more`, `bounding_all` and `beside_is`.
 -- A common multiple of all monomials is found one by one, and each multiple of it bounds them too.
-use Rattle.std.proofs.Common.{◌≡◌, refl, ℕ, ◌+◌, ◌≤◌, ◌<◌, Bool, true, false, eqb, List, [], ◌∷◌, length, sym, ◌∙◌, ap, subst, arith, eqb-true}
-use Rattle.std.proofs.lemmas.Bool.{eqb-false}
-use Rattle.ct_algebra.specs.Monomial.{Mono, exp, ◌·◌, ·_assoc, ·_comm}
-use Rattle.ct_algebra.specs.Terms.{EachTerm-weaker}
-use Rattle.ct_mono.specs.Division.{Divides}
-use Rattle.ct_mono.specs.Exponents.{with_exponent}
-use Rattle.ct_mono.proofs.ExponentLaws.{exp-with_exponent_same, exp-with_exponent_other}
+use Rattle.ct_poly.proofs.Base.{◌≡◌, refl, ℕ, ◌+◌, ◌≤◌, ◌<◌, Bool, true, false, eqb, List, [], ◌∷◌, length, sym, ◌∙◌, ap, subst, arith, eqb-true}
+use Rattle.ct_poly.proofs.Base.{eqb-false, Mono, exp, ◌·◌, ·_assoc, ·_comm, EachTerm-weaker, Divides, with_exponent, exp-with_exponent_same}
+use Rattle.ct_poly.proofs.Base.{exp-with_exponent_other}
 use Rattle.ct_poly.specs.declared.term.Term.{Term}
 use Rattle.ct_poly.specs.Cells.{AreInBox, AreMultiplesInBox}
 use Rattle.ct_poly.specs.Terms.{entries}

@@ -1,7 +1,7 @@
 -- A quotient that was found in cells is the answer of the checked division: main lemma `cells_answer`.
 -- The measures of its terms, gathered, are at most those of the terms as they were found.
-use Rattle.std.proofs.Common.{◌≡◌, refl, ◌*◌, ◌≤◌, List, [], ◌∷◌, length, Ok, Some, sym, ◌∙◌, ap, arith, mul-le-mul_right}
-use Rattle.ct_algebra.specs.Polynomial.{Polynomial, times, count, norm}
+use Rattle.ct_poly.proofs.Base.{◌≡◌, refl, ◌*◌, ◌≤◌, List, [], ◌∷◌, length, Ok, Some, sym, ◌∙◌, ap, arith, mul-le-mul_right, Polynomial, times, count}
+use Rattle.ct_poly.proofs.Base.{norm}
 use Rattle.ct_poly.specs.declared.term.Term.{Term}
 use Rattle.ct_poly.specs.Cells.{IsQuotient}
 use Rattle.ct_poly.specs.Division.{checked_quotient}

@@ -1,12 +1,10 @@
 -- The numbers of the cells of a box: main lemmas `cell_small`, `same_cell` (different monomials have different cells) and
 -- `cell_of-·` (the number of a product is the sum of the numbers).
 -- A number is a row of digits, the exponents, each below its own base; so digits are told apart from the last one on.
-use Rattle.std.proofs.Common.{◌≡◌, refl, ℕ, zero, suc, ◌+◌, ◌*◌, ◌-◌, ◌≤◌, ◌<◌, Ordering, Less, Equal, Greater, nat_cmp, ◌∙◌, ap, subst, arith, mul-le-mul_right, below_more}
+use Rattle.ct_poly.proofs.Base.{◌≡◌, refl, ℕ, zero, suc, ◌+◌, ◌*◌, ◌-◌, ◌≤◌, ◌<◌, Ordering, Less, Equal, Greater, nat_cmp, ◌∙◌, ap, subst, arith}
+use Rattle.ct_poly.proofs.Base.{mul-le-mul_right, below_more, Mono, exp, total, same_mono, ◌·◌, exp-·, Divides, total-with_exponent}
 use Rattle.std.specs.Cmp.{ranked}
 use Rattle.std.specs.Ordering.{MatchOrdering}
-use Rattle.ct_algebra.specs.Monomial.{Mono, exp, total, same_mono, ◌·◌, exp-·}
-use Rattle.ct_mono.specs.Division.{Divides}
-use Rattle.ct_mono.proofs.ExponentLaws.{total-with_exponent}
 use Rattle.ct_poly.specs.Cells.{most_cells, cells_below, cell_below, cells_of, cell_of}
 use Rattle.ct_poly.proofs.CommonMonomials.{divides_exp}
 

@@ -1,14 +1,8 @@
 -- A product that was found in cells, as what is taken out of them by 1: main lemmas `factors_small` and `product_is`, which
 -- `cell_product` cites.
 -- The measures of a product are at most the products of the measures, however it was found.
-use Rattle.std.proofs.Common.{◌≡◌, ◌≢◌, refl, ℕ, ◌*◌, ◌≤◌, pos, nat_abs, List, [], ◌∷◌, length, sym, ◌∙◌, ap, ap₂, arith}
-use Rattle.std.proofs.lemmas.List.Sums.{sum_by-cons}
-use Rattle.ct_algebra.specs.Laws.Terms.{not_zero}
-use Rattle.ct_algebra.specs.Monomial.{monomials, unit}
-use Rattle.ct_algebra.specs.Polynomial.{Polynomial, polys, plus, times, count, norm}
-use Rattle.ct_algebra.specs.Substitution.{term, number_is, one_is}
-use Rattle.ct_algebra.specs.WholeNumbers.{int_group}
-use Rattle.ct_checked.specs.Limits.{largest_norm}
+use Rattle.ct_poly.proofs.Base.{◌≡◌, ◌≢◌, refl, ℕ, ◌*◌, ◌≤◌, pos, nat_abs, List, [], ◌∷◌, length, sym, ◌∙◌, ap, ap₂, arith, sum_by-cons, not_zero}
+use Rattle.ct_poly.proofs.Base.{monomials, unit, Polynomial, polys, plus, times, count, norm, term, number_is, one_is, int_group, largest_norm}
 use Rattle.ct_poly.specs.declared.term.Term.{Term}
 use Rattle.ct_poly.specs.Cells.{IsQuotient}
 use Rattle.ct_poly.specs.Terms.{CanMultiply, IsFalling, IsListOf, poly_of_terms, size_of}

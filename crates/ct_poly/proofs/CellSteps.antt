@@ -2,24 +2,16 @@
 -- functions of `cell_division` cite.
 -- Each step takes one term times the divisor from the table, so the table stays the dividend without the terms so far times
 -- the divisor; where all cells are zero, this difference is zero.
-use Rattle.std.proofs.Common.{◌≡◌, ◌≢◌, refl, ℕ, zero, suc, ◌+◌, ◌*◌, ◌≤◌, ◌<◌, ℤ, pos, neg_ℤ, nat_abs, List, [], ◌∷◌, ◌++◌, All, length, replicate, slice_index_or, Option, Some, sym, ◌∙◌, ap, ap₂, subst, subst₂, arith, length-append}
-use Rattle.std.specs.Prelude.{IfSome}
+use Rattle.ct_poly.proofs.Base.{◌≡◌, ◌≢◌, refl, ℕ, zero, suc, ◌+◌, ◌*◌, ◌≤◌, ◌<◌, ℤ, pos, neg_ℤ, nat_abs, List, [], ◌∷◌, ◌++◌, All, length, replicate}
+use Rattle.ct_poly.proofs.Base.{slice_index_or, Option, Some, sym, ◌∙◌, ap, ap₂, subst, subst₂, arith, length-append, IfSome, sum_by-cons}
+use Rattle.ct_poly.proofs.Base.{sum_by-append, zero_add, Mono, ◌·◌, unit, ·_comm, ·-unit, Polynomial, polys, plus, times, zero_mul, one_mul, ring2}
+use Rattle.ct_poly.proofs.Base.{ring4, reify, term, number_is, one_is, EachTerm-weaker, abs-neg, Divides, most_terms, largest_norm}
 use Rattle.std.proofs.lemmas.List.{get_or-replicate, length-replicate}
-use Rattle.std.proofs.lemmas.List.Sums.{sum_by-cons, sum_by-append}
-use Rattle.ct_algebra.specs.Group.{zero_add}
-use Rattle.ct_algebra.specs.Monomial.{Mono, ◌·◌, unit, ·_comm, ·-unit}
-use Rattle.ct_algebra.specs.Polynomial.{Polynomial, polys, plus, times}
-use Rattle.ct_algebra.specs.Ring.{zero_mul, one_mul}
-use Rattle.ct_algebra.specs.RingTactic.{ring2, ring4, reify}
-use Rattle.ct_algebra.specs.Substitution.{term, number_is, one_is}
-use Rattle.ct_algebra.specs.Terms.{EachTerm-weaker}
-use Rattle.ct_int.proofs.OperationLaws.{abs-neg}
-use Rattle.ct_mono.specs.Division.{Divides}
-use Rattle.ct_checked.specs.Limits.{most_terms, largest_norm}
 use Rattle.ct_poly.specs.declared.cells.Spot.{Spot}
 use Rattle.ct_poly.specs.declared.division.Measure.{Measure}
 use Rattle.ct_poly.specs.declared.term.Term.{Term}
-use Rattle.ct_poly.specs.Cells.{IsTable, IsTableOf, IsDivisor, IsQuotient, HasRoom, AreInBox, AreMultiplesInBox, most_cells, cells_of, cell_of, spot, spots, added, size_of_cells, size_of_spots}
+use Rattle.ct_poly.specs.Cells.{IsTable, IsTableOf, IsDivisor, IsQuotient, HasRoom, AreInBox, AreMultiplesInBox, most_cells, cells_of, cell_of, spot}
+use Rattle.ct_poly.specs.Cells.{spots, added, size_of_cells, size_of_spots}
 use Rattle.ct_poly.specs.Measures.{minus}
 use Rattle.ct_poly.specs.Terms.{entries, poly_of_terms, size_of}
 use Rattle.ct_poly.proofs.BoundingBoxes.{divides_product}

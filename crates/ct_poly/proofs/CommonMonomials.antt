@@ -1,14 +1,8 @@
 -- The common monomial: the monomials that divide it are those that divide every term. Main lemmas `common_divides` and
 -- `common_greatest`. A monomial divides another exactly where no exponent is greater, and the exponents here are the least.
-use Rattle.std.proofs.Common.{◌≡◌, refl, ℕ, ◌+◌, ◌-◌, ◌≤◌, ◌<◌, min, ℤ, Bool, true, false, eqb, List, [], ◌∷◌, length, sym, ◌∙◌, ap, subst, arith, eqb-true}
-use Rattle.std.proofs.lemmas.Bool.{eqb-false}
-use Rattle.std.proofs.Math.Nat.{min-le_left, min-le_right, le-min}
-use Rattle.ct_algebra.specs.Monomial.{Mono, exp, mono, exp-mono, exp-·, same_mono, unit, ◌·◌}
-use Rattle.ct_algebra.specs.Terms.{EachTerm, EachTerm-weaker}
-use Rattle.ct_algebra.specs.Polynomial.{Polynomial}
-use Rattle.ct_mono.specs.Division.{Divides}
-use Rattle.ct_mono.specs.Exponents.{with_exponent}
-use Rattle.ct_mono.proofs.ExponentLaws.{exp-with_exponent_same, exp-with_exponent_other}
+use Rattle.ct_poly.proofs.Base.{◌≡◌, refl, ℕ, ◌+◌, ◌-◌, ◌≤◌, ◌<◌, min, ℤ, Bool, true, false, eqb, List, [], ◌∷◌, length, sym, ◌∙◌, ap, subst, arith}
+use Rattle.ct_poly.proofs.Base.{eqb-true, eqb-false, min-le_left, min-le_right, le-min, Mono, exp, mono, exp-mono, exp-·, same_mono, unit, ◌·◌}
+use Rattle.ct_poly.proofs.Base.{EachTerm, EachTerm-weaker, Polynomial, Divides, with_exponent, exp-with_exponent_same, exp-with_exponent_other}
 use Rattle.ct_poly.specs.declared.term.Term.{Term}
 use Rattle.ct_poly.specs.Terms.{entries}
 use Rattle.ct_poly.proofs.TermLists.{no_length}

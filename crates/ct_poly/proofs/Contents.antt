@@ -1,17 +1,10 @@
 -- The content: its divisors are the common divisors of the coefficients. Main lemmas `content_is` and `content_only`, which
 -- the law on contents and the loop of `content_of_terms` cite.
 -- A greatest common divisor of the coefficients exists, and every common divisor divides it; so the greatest of them is it.
-use Rattle.std.proofs.Common.{◌≡◌, ◌↔◌, refl, ℕ, zero, suc, ◌≤◌, ◌<◌, ◌%◌, ℤ, unsigned_abs, Bool, true, false, cond, eqb, ◌&&◌, List, [], ◌∷◌, length, sym, ◌∙◌, ap, subst, arith, eqb-true, eq-eqb}
-use Rattle.std.proofs.lemmas.Bool.{eqb-false}
-use Rattle.std.specs.Int.{◌∣◌, IsGcd}
-use Rattle.std.proofs.lemmas.List.Sums.{sum_by-cons}
-use Rattle.std.proofs.lemmas.Nat.Gcd.{le_of_dvd, dvd_refl, dvd_trans, dvd-zero, dvd_of_mod-eq-zero, mod-eq-zero_of_dvd}
-use Rattle.std.proofs.Math.Nat.{eq-zero_of_zero-dvd, eq-one_of_dvd-one, one-dvd}
-use Rattle.ct_algebra.specs.Laws.Terms.{not_zero}
-use Rattle.ct_algebra.specs.Monomial.{Mono, monomials}
-use Rattle.ct_algebra.specs.Terms.{IsCanonical}
-use Rattle.ct_algebra.specs.WholeNumbers.{int_group}
-use Rattle.ct_algebra.specs.Polynomial.{Polynomial, norm, norm_of}
+use Rattle.ct_poly.proofs.Base.{◌≡◌, ◌↔◌, refl, ℕ, zero, suc, ◌≤◌, ◌<◌, ◌%◌, ℤ, unsigned_abs, Bool, true, false, cond, eqb, ◌&&◌, List, [], ◌∷◌}
+use Rattle.ct_poly.proofs.Base.{length, sym, ◌∙◌, ap, subst, arith, eqb-true, eq-eqb, eqb-false, ◌∣◌, IsGcd, sum_by-cons, le_of_dvd, dvd_refl}
+use Rattle.ct_poly.proofs.Base.{dvd_trans, dvd-zero, dvd_of_mod-eq-zero, mod-eq-zero_of_dvd, eq-zero_of_zero-dvd, eq-one_of_dvd-one, one-dvd}
+use Rattle.ct_poly.proofs.Base.{not_zero, Mono, monomials, IsCanonical, int_group, Polynomial, norm, norm_of}
 use Rattle.ct_int.proofs.GcdLaws.{gcd-exists}
 use Rattle.ct_poly.specs.Content.{DividesAll, IsContentOf, divides_each, greatest_up_to, content}
 use Rattle.ct_poly.specs.declared.term.Term.{Term}

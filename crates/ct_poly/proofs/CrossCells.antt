@@ -2,20 +2,14 @@
 -- `cross_answer`, which the functions of `crossing` cite.
 -- Multiples of one list by the terms of another are added to a table; after all terms it holds the product more. The second
 -- product is that of the negative of its first factor.
-use Rattle.std.proofs.Common.{◌≡◌, ◌≢◌, refl, ℕ, ◌+◌, ◌*◌, ◌≤◌, ◌<◌, ℤ, nat_abs, List, [], ◌∷◌, All, length, sym, ◌∙◌, ap, ap₂, subst, arith, mul-le-mul_right}
-use Rattle.std.proofs.lemmas.List.Sums.{sum_by-cons}
-use Rattle.ct_algebra.specs.Group.{zero_add}
-use Rattle.ct_algebra.specs.Monomial.{Mono, ◌·◌, ·_comm, ·_assoc}
-use Rattle.ct_algebra.specs.Polynomial.{Polynomial, polys, plus, times, count, norm, degree, degree_of as list_degree}
-use Rattle.ct_algebra.specs.Ring.{zero_mul, neg_mul}
-use Rattle.ct_algebra.specs.RingTactic.{ring4, reify}
-use Rattle.ct_algebra.specs.Substitution.{term}
-use Rattle.ct_algebra.specs.Terms.{EachTerm-weaker}
-use Rattle.ct_mono.specs.Division.{Divides}
-use Rattle.ct_checked.specs.Limits.{largest_norm}
+use Rattle.ct_poly.proofs.Base.{◌≡◌, ◌≢◌, refl, ℕ, ◌+◌, ◌*◌, ◌≤◌, ◌<◌, ℤ, nat_abs, List, [], ◌∷◌, All, length, sym, ◌∙◌, ap, ap₂, subst, arith}
+use Rattle.ct_poly.proofs.Base.{mul-le-mul_right, sum_by-cons, zero_add, Mono, ◌·◌, ·_comm, ·_assoc, Polynomial, polys, plus, times, count, norm}
+use Rattle.ct_poly.proofs.Base.{degree, zero_mul, neg_mul, ring4, reify, term, EachTerm-weaker, Divides, largest_norm}
+use Rattle.ct_algebra.specs.Polynomial.{degree_of as list_degree}
 use Rattle.ct_poly.specs.declared.cells.Spot.{Spot}
 use Rattle.ct_poly.specs.declared.term.Term.{Term}
-use Rattle.ct_poly.specs.Cells.{IsTable, IsQuotient, IsMultiplied, AreInBox, AreProductsInBox, cells_of, cell_of, spots, added, size_of_cells, size_of_spots}
+use Rattle.ct_poly.specs.Cells.{IsTable, IsQuotient, IsMultiplied, AreInBox, AreProductsInBox, cells_of, cell_of, spots, added, size_of_cells}
+use Rattle.ct_poly.specs.Cells.{size_of_spots}
 use Rattle.ct_poly.specs.declared.division.Measure.{Measure}
 use Rattle.ct_poly.specs.Crossing.{cross, cross_count, cross_norm, CrossHasRoom, IsCrossQuotient, IsRoomForCross}
 use Rattle.ct_poly.specs.Measures.{minus}

@@ -1,13 +1,9 @@
 -- The law of cross quotients: main lemmas `cross_fits` and `cross_quotients_fit`.
 -- The measures of a product are at most the products of the measures, and those of a difference at most the sums; so the room
 -- that the operands leave is enough for the results.
-use Rattle.std.proofs.Common.{◌≡◌, ◌≢◌, refl, ℕ, zero, suc, ◌+◌, ◌*◌, ◌≤◌, ℤ, List, [], ◌∷◌, length, Ok, Some, None, ◌∙◌, ap, arith}
-use Rattle.ct_algebra.specs.Monomial.{Mono, monomials}
-use Rattle.ct_algebra.specs.Polynomial.{Polynomial, polys, times, count, norm, degree}
-use Rattle.ct_algebra.specs.Sums.{none_of, has_none}
-use Rattle.ct_algebra.specs.WholeNumbers.{int_group}
-use Rattle.ct_checked.specs.Checked.{◌>>=◌, verdict_fits}
-use Rattle.ct_checked.specs.Limits.{largest_degree, most_terms, largest_norm}
+use Rattle.ct_poly.proofs.Base.{◌≡◌, ◌≢◌, refl, ℕ, zero, suc, ◌+◌, ◌*◌, ◌≤◌, ℤ, List, [], ◌∷◌, length, Ok, Some, None, ◌∙◌, ap, arith, Mono}
+use Rattle.ct_poly.proofs.Base.{monomials, Polynomial, polys, times, count, norm, degree, none_of, has_none, int_group, ◌>>=◌, verdict_fits}
+use Rattle.ct_poly.proofs.Base.{largest_degree, most_terms, largest_norm}
 use Rattle.ct_poly.specs.Crossing.{cross, checked_cross, cross_count, cross_norm, CrossHasRoom, DivisionHasRoom, IsCrossQuotient}
 use Rattle.ct_poly.specs.Division.{checked_quotient, quotient, value_or_none}
 use Rattle.ct_poly.specs.Measures.{minus, checked_times, checked_minus, product_overflow}

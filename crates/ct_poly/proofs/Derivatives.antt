@@ -1,19 +1,11 @@
 -- The list of derived terms is that of the derivative: main lemma `derivative_is`, which `derivative_of_terms` cites.
 -- A term without the name gives none. The others are one name lower, which keeps their order.
-use Rattle.std.proofs.Common.{◌≡◌, refl, ℕ, zero, suc, ◌+◌, ◌-◌, ◌*◌, ◌≤◌, ◌<◌, ℤ, pos, negsuc, ◌*ℤ◌, nat_abs, unsigned_abs, Bool, true, false, eqb, List, [], ◌∷◌, ◌++◌, length, sym, ◌∙◌, ap, ap₂, subst, arith, T, cond, eqb→eq}
-use Rattle.std.proofs.lemmas.List.Sums.{sum_by-cons}
-use Rattle.std.proofs.lemmas.Int.{unsigned_abs-mul}
-use Rattle.ct_algebra.specs.Derivative.{derived, derived-sum, derived-term, lower, exp-lower, plus_nat_is, power_at_is}
-use Rattle.ct_algebra.specs.Group.{zero_add, none_added}
+use Rattle.ct_poly.proofs.Base.{◌≡◌, refl, ℕ, zero, suc, ◌+◌, ◌-◌, ◌*◌, ◌≤◌, ◌<◌, ℤ, pos, negsuc, ◌*ℤ◌, nat_abs, unsigned_abs, Bool, true, false, eqb}
+use Rattle.ct_poly.proofs.Base.{List, [], ◌∷◌, ◌++◌, length, sym, ◌∙◌, ap, ap₂, subst, arith, T, cond, eqb→eq, sum_by-cons, unsigned_abs-mul, derived}
+use Rattle.ct_poly.proofs.Base.{derived-sum, derived-term, lower, exp-lower, plus_nat_is, power_at_is, zero_add, none_added, Mono, monomials}
+use Rattle.ct_poly.proofs.Base.{mono_cmp, mono_ordered, exp, exp-·, ◌·◌, same_mono, name_with, symbol, exp-symbol, polys, term, AllBelow, is_less}
+use Rattle.ct_poly.proofs.Base.{int_group, int_is_zero, with_exponent, exp-with_exponent}
 use Rattle.ct_algebra.specs.Laws.Derivations.{none_at}
-use Rattle.ct_algebra.specs.Monomial.{Mono, monomials, mono_cmp, mono_ordered, exp, exp-·, ◌·◌, same_mono}
-use Rattle.ct_algebra.specs.Names.{name_with, symbol, exp-symbol}
-use Rattle.ct_algebra.specs.Polynomial.{polys}
-use Rattle.ct_algebra.specs.Substitution.{term}
-use Rattle.ct_algebra.specs.Terms.{AllBelow, is_less}
-use Rattle.ct_algebra.specs.WholeNumbers.{int_group, int_is_zero}
-use Rattle.ct_mono.specs.Exponents.{with_exponent}
-use Rattle.ct_mono.proofs.ExponentLaws.{exp-with_exponent}
 use Rattle.ct_poly.specs.declared.term.Term.{Term}
 use Rattle.ct_poly.specs.Terms.{entries, size_of, derivative_size, IsFalling, IsListOf, poly_of_terms}
 use Rattle.ct_poly.proofs.TermLists.{place-name_with, poly_of-cons, poly_of-none}

@@ -1,24 +1,18 @@
 -- A polynomial whose terms are all divided by one term. Main lemmas `divided_whole` (times the term it is the polynomial),
 -- `divided_terms` (its terms are the quotients) and `divided_is_listed`, which the loop of `divided_terms` cites.
 -- The list of the quotients times the term is the list of the terms; so it falls as that does.
-use Rattle.std.proofs.Common.{◌≡◌, refl, ℕ, zero, suc, ◌*◌, ◌≤◌, ◌<◌, ℤ, pos, ◌*ℤ◌, int_div, nat_abs, true, false, cond, T, List, [], ◌∷◌, ◌++◌, map, length, sym, ◌∙◌, ap, ap₂, subst, arith, append_assoc, append-nil}
-use Rattle.std.proofs.lemmas.List.Sums.{sum_by-cons}
-use lib.IntN.{*ℤ_comm}
-use Rattle.ct_algebra.specs.Monomial.{Mono, monomials, mono_ordered, mono_cmp, ◌·◌, ·_comm}
-use Rattle.ct_algebra.specs.Terms.{AllBelow, IsCanonical, EachTerm, is_less}
-use Rattle.ct_algebra.specs.Laws.Terms.{not_zero}
-use Rattle.ct_algebra.specs.Ring.{mul_zero}
-use Rattle.ct_algebra.specs.WholeNumbers.{int_group, int_ring, int_is_zero}
-use Rattle.ct_algebra.specs.Substitution.{term}
-use Rattle.ct_algebra.specs.Polynomial.{Polynomial, poly_of, times, norm_of, terms-poly_of}
-use Rattle.ct_algebra.proofs.TermLists.{row_of, poly_of-row}
-use Rattle.ct_checked.specs.Limits.{largest_norm}
+use Rattle.ct_poly.proofs.Base.{◌≡◌, refl, ℕ, zero, suc, ◌*◌, ◌≤◌, ◌<◌, ℤ, pos, ◌*ℤ◌, int_div, nat_abs, true, false, cond, T, List, [], ◌∷◌, ◌++◌}
+use Rattle.ct_poly.proofs.Base.{map, length, sym, ◌∙◌, ap, ap₂, subst, arith, append_assoc, append-nil, sum_by-cons, Mono, monomials, mono_ordered}
+use Rattle.ct_poly.proofs.Base.{mono_cmp, ◌·◌, ·_comm, AllBelow, IsCanonical, EachTerm, is_less, not_zero, mul_zero, int_group, int_ring, int_is_zero}
+use Rattle.ct_poly.proofs.Base.{term, Polynomial, poly_of, times, norm_of, terms-poly_of, row_of, poly_of-row, largest_norm}
 use Rattle.ct_poly.specs.declared.term.Term.{Term}
 use Rattle.ct_poly.specs.Terms.{entries, entry, size_of, IsFalling, IsListOf, poly_of_terms}
 use Rattle.ct_poly.specs.Content.{TermDivides, term_divided, divided}
 use Rattle.ct_poly.proofs.CommonMonomials.{divides_exp, without, without-·}
-use Rattle.ct_poly.proofs.TermLists.{no_length, entries-append, rebuilt, poly_of-single, terms_of, norm_of-row, norm_of-entries, length-entries, nonzero_coef}
+use Rattle.ct_poly.proofs.TermLists.{no_length, entries-append, rebuilt, poly_of-single, terms_of, norm_of-row, norm_of-entries, length-entries}
+use Rattle.ct_poly.proofs.TermLists.{nonzero_coef}
 use Rattle.ct_poly.proofs.WholeQuotients.{int_div-*, positive_abs}
+use lib.IntN.{*ℤ_comm}
 
 abbrev pub quotients : Mono → ℤ → List (Mono × ℤ) → List (Mono × ℤ)
 quotients m d es = map (term_divided m d) es

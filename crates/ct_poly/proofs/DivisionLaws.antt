@@ -1,23 +1,12 @@
 -- What a division finds: main lemmas `checked_quotient_is`, `checked_quotient_none`, `quotient_is` and `division_exact`.
 -- The dividend stays the quotient so far times f, and the rest. Where a quotient exists, the rest is a multiple of f, so its
 -- leading term is one of f's; so the division does not stop before the rest is zero.
-use Rattle.std.proofs.Common.{◌≡◌, ◌≢◌, refl, Bool, true, false, cond, ℤ, List, [], ◌∷◌, Ok, Err, Some, None, Option, Result, sym, ◌∙◌, ap, ap₂, subst}
-use Rattle.std.specs.Prelude.{IfOk, IfSome, MatchOption}
-use Rattle.ct_algebra.specs.Leading.{leading}
-use Rattle.ct_algebra.specs.Group.{zero_add}
-use Rattle.ct_algebra.specs.Laws.Terms.{not_zero}
-use Rattle.ct_algebra.specs.Monomial.{Mono, monomials}
-use Rattle.ct_algebra.specs.Polynomial.{Polynomial, polys, times}
-use Rattle.ct_algebra.specs.Ring.{zero_mul}
-use Rattle.ct_algebra.specs.RingTactic.{ring3, reify}
-use Rattle.ct_algebra.specs.Sums.{has_none, none_of}
-use Rattle.ct_algebra.specs.Terms.{IsCanonical}
-use Rattle.ct_algebra.specs.WholeNumbers.{int_group}
-use Rattle.ct_checked.specs.Checked.{Checked, both_fit, Answers}
+use Rattle.ct_poly.proofs.Base.{◌≡◌, ◌≢◌, refl, Bool, true, false, cond, ℤ, List, [], ◌∷◌, Ok, Err, Some, None, Option, Result, sym, ◌∙◌, ap, ap₂}
+use Rattle.ct_poly.proofs.Base.{subst, IfOk, IfSome, MatchOption, leading, zero_add, not_zero, Mono, monomials, Polynomial, polys, times, zero_mul}
+use Rattle.ct_poly.proofs.Base.{ring3, reify, has_none, none_of, IsCanonical, int_group, Checked, both_fit, Answers, over-·, run, run_keeps}
 use Rattle.ct_checked.specs.declared.fault.Fault.{Fault}
-use Rattle.ct_mono.specs.Division.{over-·}
-use Rattle.ct_checked.specs.Loop.{run, run_keeps}
-use Rattle.ct_poly.specs.Division.{Dividing, both_over, leading_over, next_term, checked_step, dividing_rank, whole_dividend, found_quotient, checked_quotient, value_or_none, quotient}
+use Rattle.ct_poly.specs.Division.{Dividing, both_over, leading_over, next_term, checked_step, dividing_rank, whole_dividend, found_quotient}
+use Rattle.ct_poly.specs.Division.{checked_quotient, value_or_none, quotient}
 use Rattle.ct_poly.proofs.DivisionSteps.{IsWhole, whole_kept, division_falls}
 use Rattle.ct_poly.proofs.ProductLeads.{product_leads}
 use Rattle.ct_poly.proofs.WholeQuotients.{whole_over-*}

@@ -1,14 +1,7 @@
 -- The lists of a division: what is left after a step is listed by a merge without the leading terms. Main lemmas `can_step`
 -- and `rest_is_listed`, which `rest_without` cites.
-use Rattle.std.proofs.Common.{◌≡◌, ℕ, ◌+◌, ◌*◌, ◌≤◌, ℤ, neg_ℤ, ◌*ℤ◌, refl, nat_abs, List, [], ◌∷◌, length, Some, sym, ◌∙◌, ap, ap₂, subst, arith}
-use Rattle.std.proofs.lemmas.List.Sums.{sum_by-cons}
-use Rattle.std.proofs.lemmas.Int.{ints}
-use Rattle.ct_algebra.specs.Leading.{leading}
-use Rattle.ct_algebra.specs.Monomial.{total, total-·, ◌·◌}
-use Rattle.ct_algebra.specs.Polynomial.{polys, plus, times}
-use Rattle.ct_algebra.specs.Substitution.{term}
-use Rattle.ct_int.proofs.OperationLaws.{abs-neg}
-use Rattle.ct_checked.specs.Limits.{largest_degree, largest_norm}
+use Rattle.ct_poly.proofs.Base.{◌≡◌, ℕ, ◌+◌, ◌*◌, ◌≤◌, ℤ, neg_ℤ, ◌*ℤ◌, refl, nat_abs, List, [], ◌∷◌, length, Some, sym, ◌∙◌, ap, ap₂, subst, arith}
+use Rattle.ct_poly.proofs.Base.{sum_by-cons, ints, leading, total, total-·, ◌·◌, polys, plus, times, term, abs-neg, largest_degree, largest_norm}
 use Rattle.ct_poly.specs.declared.term.Term.{Term}
 use Rattle.ct_poly.specs.Division.{Dividing, leading_over, step_of}
 use Rattle.ct_poly.specs.Measures.{minus}

@@ -1,29 +1,22 @@
 -- The loop of a division: its lists are those of the states of the checked computation. Main lemmas `division_start`,
 -- `division_more`, `division_stops`, `division_found` and `division_fails`, which `Poly::divide` cites.
 -- A term that is found is below all terms of the quotient so far, since times the leading term of f it leads the rest.
-use Rattle.std.proofs.Common.{◌≡◌, refl, ℕ, ◌+◌, ◌*◌, ◌≤◌, ◌<◌, Bool, true, false, ltb, T, cond, ℤ, unsigned_abs, nat_abs, List, [], ◌∷◌, ◌++◌, length, Ok, Err, Some, None, Option, Less, sym, ◌∙◌, ap, ap₂, subst, subst₂, arith, ltb-false, length-append}
-use Rattle.std.proofs.lemmas.List.Sums.{sum_by-cons, sum_by-append}
-use Rattle.ct_algebra.specs.Leading.{leading}
-use Rattle.ct_algebra.specs.Laws.Terms.{AllBelow_trans, less_is}
-use Rattle.ct_algebra.specs.Monomial.{Mono, monomials, mono_ordered, mono_cmp, ◌·◌}
-use Rattle.ct_algebra.specs.Polynomial.{Polynomial, polys, plus_is, times, norm}
-use Rattle.ct_algebra.specs.Substitution.{term}
-use Rattle.ct_algebra.specs.Sums.{has_none}
-use Rattle.ct_algebra.specs.Terms.{AllBelow, IsCanonical, EachTerm, EachTerm-weaker, is_less}
-use Rattle.ct_algebra.specs.WholeNumbers.{int_group, int_is_zero}
-use Rattle.ct_checked.specs.Checked.{Checked, ◌>>=◌, verdict_fits, verdict_refuses}
-use Rattle.ct_checked.specs.Limits.{most_terms, largest_norm}
-use Rattle.ct_checked.specs.Loop.{run, run_step, run_done}
-use Rattle.ct_checked.specs.declared.fault.Kind.{Kind}
-use Rattle.ct_checked.specs.declared.fault.Kind.TheVariants.{Terms, Number}
+use Rattle.ct_poly.proofs.Base.{◌≡◌, refl, ℕ, ◌+◌, ◌*◌, ◌≤◌, ◌<◌, Bool, true, false, ltb, T, cond, ℤ, unsigned_abs, nat_abs, List, [], ◌∷◌, ◌++◌}
+use Rattle.ct_poly.proofs.Base.{length, Ok, Err, Some, None, Option, Less, sym, ◌∙◌, ap, ap₂, subst, subst₂, arith, ltb-false, length-append}
+use Rattle.ct_poly.proofs.Base.{sum_by-cons, sum_by-append, leading, AllBelow_trans, less_is, Mono, monomials, mono_ordered, mono_cmp, ◌·◌}
+use Rattle.ct_poly.proofs.Base.{Polynomial, polys, plus_is, times, norm, term, has_none, AllBelow, IsCanonical, EachTerm, EachTerm-weaker, is_less}
+use Rattle.ct_poly.proofs.Base.{int_group, int_is_zero, Checked, ◌>>=◌, verdict_fits, verdict_refuses, most_terms, largest_norm, run, run_step}
+use Rattle.ct_poly.proofs.Base.{run_done, Kind, Terms, Number}
 use Rattle.ct_poly.specs.declared.term.Term.{Term}
 use Rattle.ct_poly.specs.declared.division.Measure.{Measure}
-use Rattle.ct_poly.specs.Division.{Dividing, leading_over, next_term, step_rules, step_overflow, step_of, checked_step, leading_rank, dividing_rank, found_quotient, checked_quotient}
+use Rattle.ct_poly.specs.Division.{Dividing, leading_over, next_term, step_rules, step_overflow, step_of, checked_step, leading_rank, dividing_rank}
+use Rattle.ct_poly.specs.Division.{found_quotient, checked_quotient}
 use Rattle.ct_poly.specs.Measures.{minus, broken}
 use Rattle.ct_poly.specs.Terms.{entries, entry, size_of, IsFalling, IsListOf, poly_of_terms}
 use Rattle.ct_poly.proofs.DivisionSteps.{IsNext, next_is, coef_nonzero, rest_below, rank_falls, division_falls}
 use Rattle.ct_poly.proofs.ProductLeads.{all_below}
-use Rattle.ct_poly.proofs.TermLists.{no_length, terms_of, count_of-terms, norm_of-terms, poly_of-none, poly_of-one, poly_of-append, entries-append, nonzero_coef}
+use Rattle.ct_poly.proofs.TermLists.{no_length, terms_of, count_of-terms, norm_of-terms, poly_of-none, poly_of-one, poly_of-append, entries-append}
+use Rattle.ct_poly.proofs.TermLists.{nonzero_coef}
 use Rattle.ct_poly.proofs.Values.{IsKept}
 
 -- ---- the rules

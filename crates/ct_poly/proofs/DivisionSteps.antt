@@ -1,30 +1,20 @@
 -- One step of a division. Main lemmas `next_is` (which term is found), `rest_value` (what the rest becomes, without its
 -- leading term), `rest_below` (all of it is below), `step_falls` (which a law cites), `division_falls` and `whole_kept`.
 -- The leading terms of the rest and of u·f are the same, so both go.
-use Rattle.std.proofs.Common.{◌≡◌, refl, ◌<◌, suc, ℤ, neg_ℤ, pos, zero, negsuc, ◌*ℤ◌, T, true, false, cond, List, [], ◌∷◌, Ok, Some, None, Option, Less, sym, ◌∙◌, ap, ap₂, subst, arith}
-use lib.IntN.{*ℤ_comm}
-use Rattle.ct_algebra.specs.Group.{IsHom, hom_neg}
-use Rattle.ct_algebra.specs.Leading.{leading}
-use Rattle.ct_algebra.specs.Monomial.{Mono, monomials, mono_cmp, ◌·◌}
-use Rattle.ct_algebra.specs.Polynomial.{Polynomial, polys, poly_of, plus, times, terms-poly_of}
-use Rattle.ct_algebra.specs.RingTactic.{ring4, reify}
-use Rattle.ct_algebra.specs.Substitution.{term, term-sum, term-*}
-use Rattle.ct_algebra.specs.Sums.{EachTerm-⊕}
-use Rattle.ct_algebra.specs.Terms.{IsCanonical}
-use Rattle.ct_algebra.specs.WholeNumbers.{int_group, int_is_zero}
-use Rattle.ct_algebra.proofs.TermLists.{row_of}
-use Rattle.ct_algebra.proofs.TermProducts.{sum_of-append}
-use Rattle.ct_checked.specs.Checked.{verdict_ok}
-use Rattle.ct_mono.specs.Division.{over, over_is}
-use Rattle.ct_checked.specs.Loop.{Falls}
+use Rattle.ct_poly.proofs.Base.{◌≡◌, refl, ◌<◌, suc, ℤ, neg_ℤ, pos, zero, negsuc, ◌*ℤ◌, T, true, false, cond, List, [], ◌∷◌, Ok, Some, None, Option}
+use Rattle.ct_poly.proofs.Base.{Less, sym, ◌∙◌, ap, ap₂, subst, arith, IsHom, hom_neg, leading, Mono, monomials, mono_cmp, ◌·◌, Polynomial, polys}
+use Rattle.ct_poly.proofs.Base.{poly_of, plus, times, terms-poly_of, ring4, reify, term, term-sum, term-*, EachTerm-⊕, IsCanonical, int_group}
+use Rattle.ct_poly.proofs.Base.{int_is_zero, row_of, sum_of-append, verdict_ok, over, over_is, Falls}
 use Rattle.ct_mono.specs.Rank.{rank-less}
-use Rattle.ct_poly.specs.Division.{Dividing, whole_over, both_over, term_over, leading_over, next_term, step_of, checked_step, leading_rank, dividing_rank}
+use Rattle.ct_poly.specs.Division.{Dividing, whole_over, both_over, term_over, leading_over, next_term, step_of, checked_step, leading_rank}
+use Rattle.ct_poly.specs.Division.{dividing_rank}
 use Rattle.ct_poly.specs.DivisionLaws.{EachDivisionStepFalls}
 use Rattle.ct_poly.specs.Measures.{minus}
 use Rattle.ct_poly.proofs.DividedTerms.{divisor_nonzero}
 use Rattle.ct_poly.proofs.ProductLeads.{EachBelow, each_below, row_below}
 use Rattle.ct_poly.proofs.TermLists.{rebuilt, poly_of-single, terms-multiple}
 use Rattle.ct_poly.proofs.WholeQuotients.{whole_over_is}
+use lib.IntN.{*ℤ_comm}
 
 -- u is the quotient of two leading terms
 pub record IsNext (es ds : List (Mono × ℤ)) (u : Mono × ℤ) : Type 0 where

@@ -1,28 +1,13 @@
 -- A quotient that leaves room for each step of the division is what the checked loop finds: main lemma `fitting_quotient`.
 -- In each state what is left of the quotient times f is the rest, so the next term is the leading one of what is left. Each
 -- step adds at most a multiple of f to the rest, so no measure passes those of the dividend and all multiples together.
-use Rattle.std.proofs.Common.{◌≡◌, refl, ℕ, ◌+◌, ◌*◌, ◌≤◌, ℤ, neg_ℤ, nat_abs, cond, List, [], ◌∷◌, length, Ok, Some, None, sym, ◌∙◌, ap, ap₂, subst, arith, mul-le-mul_right}
-use Rattle.std.proofs.lemmas.List.Sums.{sum_by-cons}
-use Rattle.std.proofs.lemmas.Bool.{le-ltb}
-use Rattle.ct_algebra.specs.Leading.{leading}
-use Rattle.ct_algebra.specs.Group.{zero_add}
-use Rattle.ct_algebra.specs.Laws.Terms.{not_zero}
-use Rattle.ct_algebra.specs.Monomial.{Mono, monomials}
-use Rattle.ct_algebra.specs.Polynomial.{Polynomial, polys, poly_of, plus, times, count, norm, norm_of, terms-poly_of}
-use Rattle.ct_algebra.specs.Ring.{zero_mul}
-use Rattle.ct_algebra.specs.RingTactic.{ring3, reify}
-use Rattle.ct_algebra.specs.Substitution.{term}
-use Rattle.ct_algebra.specs.Sums.{none}
-use Rattle.ct_algebra.specs.Terms.{IsCanonical}
-use Rattle.ct_algebra.specs.WholeNumbers.{int_group}
-use Rattle.ct_algebra.proofs.TermProducts.{sum_of-none, sum_of-append}
-use Rattle.ct_int.proofs.OperationLaws.{abs-neg}
-use Rattle.ct_checked.specs.Checked.{◌>>=◌, verdict_fits}
-use Rattle.ct_mono.specs.Division.{over-·}
-use Rattle.ct_checked.specs.Limits.{most_terms, largest_norm}
-use Rattle.ct_checked.specs.Loop.{run, run_done, run_more}
-use Rattle.ct_checked.specs.declared.fault.Kind.TheVariants.{Terms, Number}
-use Rattle.ct_poly.specs.Division.{Dividing, both_over, leading_over, next_term, step_rules, step_overflow, step_of, checked_step, dividing_rank, whole_dividend, found_quotient, checked_quotient}
+use Rattle.ct_poly.proofs.Base.{◌≡◌, refl, ℕ, ◌+◌, ◌*◌, ◌≤◌, ℤ, neg_ℤ, nat_abs, cond, List, [], ◌∷◌, length, Ok, Some, None, sym, ◌∙◌, ap, ap₂, subst}
+use Rattle.ct_poly.proofs.Base.{arith, mul-le-mul_right, sum_by-cons, le-ltb, leading, zero_add, not_zero, Mono, monomials, Polynomial, polys}
+use Rattle.ct_poly.proofs.Base.{poly_of, plus, times, count, norm, norm_of, terms-poly_of, zero_mul, ring3, reify, term, none, IsCanonical, int_group}
+use Rattle.ct_poly.proofs.Base.{sum_of-none, sum_of-append, abs-neg, ◌>>=◌, verdict_fits, over-·, most_terms, largest_norm, run, run_done, run_more}
+use Rattle.ct_poly.proofs.Base.{Terms, Number}
+use Rattle.ct_poly.specs.Division.{Dividing, both_over, leading_over, next_term, step_rules, step_overflow, step_of, checked_step, dividing_rank}
+use Rattle.ct_poly.specs.Division.{whole_dividend, found_quotient, checked_quotient}
 use Rattle.ct_poly.specs.Measures.{minus, broken}
 use Rattle.ct_poly.proofs.DivisionSteps.{division_falls, term-neg}
 use Rattle.ct_poly.proofs.ProductLeads.{product_leads}

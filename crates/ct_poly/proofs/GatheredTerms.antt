@@ -1,15 +1,9 @@
 -- Lists gathered into falling order: main lemmas `comparing_more`, `gathered_none` and `gathered_halves`, which the functions
 -- of `gathering` cite.
 -- Where each term is above the next it is above all later ones; and a list adds up to what its halves add up to.
-use Rattle.std.proofs.Common.{◌≡◌, ◌≢◌, ◌+◌, ◌≤◌, pos, nat_abs, T, Less, Greater, List, [], ◌∷◌, ◌++◌, length, sym, ◌∙◌, ap, ap₂, subst, arith, length-append}
-use Rattle.std.proofs.lemmas.List.Sums.{sum_by-append, sum_by-cons}
-use Rattle.ct_algebra.specs.Derivative.{zero_term}
-use Rattle.ct_algebra.specs.Laws.Terms.{AllBelow_trans}
-use Rattle.ct_algebra.specs.Monomial.{monomials, mono_cmp, mono_turned_back}
-use Rattle.ct_algebra.specs.Polynomial.{polys, plus, plus_is}
-use Rattle.ct_algebra.specs.Substitution.{term}
-use Rattle.ct_algebra.specs.Terms.{is_less}
-use Rattle.ct_algebra.specs.WholeNumbers.{int_group}
+use Rattle.ct_poly.proofs.Base.{◌≡◌, ◌≢◌, ◌+◌, ◌≤◌, pos, nat_abs, T, Less, Greater, List, [], ◌∷◌, ◌++◌, length, sym, ◌∙◌, ap, ap₂, subst, arith}
+use Rattle.ct_poly.proofs.Base.{length-append, sum_by-append, sum_by-cons, zero_term, AllBelow_trans, monomials, mono_cmp, mono_turned_back, polys}
+use Rattle.ct_poly.proofs.Base.{plus, plus_is, term, is_less, int_group}
 use Rattle.ct_poly.specs.declared.term.Term.{Term}
 use Rattle.ct_poly.specs.Terms.{entries, IsFalling, IsListOf, poly_of_terms, size_of}
 use Rattle.ct_poly.proofs.TermLists.{nonzero_coef, poly_of-append, poly_of-none, poly_of-one}

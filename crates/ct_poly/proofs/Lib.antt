@@ -1,3 +1,4 @@
+pub mod Base
 pub mod TermLists
 pub mod OverflowRules
 pub mod WholeLimits

@@ -1,24 +1,20 @@
 -- The merge of a list with the multiples of another. Main lemmas `product_pushed`, `product_gone` and `accumulation_ended`,
 -- which `sum_with_multiple` cites, and `counted_split`, which `split_above` does.
 -- The products of a term and a falling list fall, so this is a merge of two falling lists; the second is made on the way.
-use Rattle.std.proofs.Common.{◌≡◌, refl, ℕ, suc, ◌+◌, ◌*◌, ◌≤◌, ℤ, pos, ◌+ℤ◌, ◌*ℤ◌, nat_abs, true, List, [], ◌∷◌, ◌++◌, length, Ordering, Less, Equal, Greater, is_eq, is_gt, ⊎_elim, sym, ◌∙◌, ap, subst, subst₂, arith, append_assoc, append-nil, length-append}
-use Rattle.std.proofs.lemmas.List.Sums.{sum_by-cons, sum_by_push}
-use Rattle.std.proofs.lemmas.Int.{ints, unsigned_abs-mul}
-use Rattle.ct_algebra.specs.Laws.Terms.{not_zero, less_is}
-use Rattle.ct_algebra.specs.Monomial.{Mono, monomials, mono_cmp, mono_turned, mono_turned_back, mono_tied, ◌·◌}
-use Rattle.ct_algebra.specs.Polynomial.{plus, times}
-use Rattle.ct_algebra.specs.Terms.{AllBelow, IsCanonical, by_order, keep, value_at, pick}
-use Rattle.ct_algebra.specs.WholeNumbers.{int_group}
-use Rattle.ct_algebra.proofs.Merging as merging
-use Rattle.ct_checked.specs.Limits.{largest_norm}
+use Rattle.ct_poly.proofs.Base.{◌≡◌, refl, ℕ, suc, ◌+◌, ◌*◌, ◌≤◌, ℤ, pos, ◌+ℤ◌, ◌*ℤ◌, nat_abs, true, List, [], ◌∷◌, ◌++◌, length, Ordering, Less}
+use Rattle.ct_poly.proofs.Base.{Equal, Greater, is_eq, is_gt, ⊎_elim, sym, ◌∙◌, ap, subst, subst₂, arith, append_assoc, append-nil, length-append}
+use Rattle.ct_poly.proofs.Base.{sum_by-cons, sum_by_push, ints, unsigned_abs-mul, not_zero, less_is, Mono, monomials, mono_cmp, mono_turned}
+use Rattle.ct_poly.proofs.Base.{mono_turned_back, mono_tied, ◌·◌, plus, times, AllBelow, IsCanonical, by_order, keep, value_at, pick, int_group}
+use Rattle.ct_poly.proofs.Base.{largest_norm}
 use Rattle.ct_poly.specs.Accumulation.{EachAbove, count_above, BeginsBelow, IsBlock, Joins, Precedes, Meets}
 use Rattle.ct_poly.specs.declared.term.Term.{Term}
 use Rattle.ct_poly.specs.Terms.{entry, entries, size_of, IsFalling, IsListOf, CanMultiply, poly_of_terms}
-use Rattle.ct_poly.proofs.Merging as terms
 use Rattle.ct_poly.proofs.Merging.{sum_is}
 use Rattle.ct_poly.proofs.Products.{product, multiple_is}
 use Rattle.ct_poly.proofs.TermLists.{no_length, entries-append, abs_sum}
 use Rattle.ct_poly.proofs.Termwise.{made_of}
+use Rattle.ct_algebra.proofs.Merging as merging
+use Rattle.ct_poly.proofs.Merging as terms
 
 abbrev size : Term → ℕ
 size t = nat_abs t.coef

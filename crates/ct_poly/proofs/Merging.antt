@@ -1,20 +1,14 @@
 -- Two lists of terms that are merged step by step give the list of their sum: main lemmas `first_ended` and `second_ended`,
 -- which each merge of sorted terms cites at its two ends, here and in ct_ore. A term is seen as a key and a value (`entry`).
 -- `IsMerging` says of what is done and of what is left that they add up to the whole, and each step of the code keeps it.
-use Rattle.std.proofs.Common.{◌≡◌, refl, ℕ, ◌+◌, ◌≤◌, nat_abs, List, [], ◌∷◌, ◌++◌, length, map, sum_by, sym, ◌∙◌, ap, subst, subst₂, arith, append-nil, Less, Equal, Bool, true, false, cond}
+use Rattle.ct_poly.proofs.Base.{◌≡◌, refl, ℕ, ◌+◌, ◌≤◌, nat_abs, List, [], ◌∷◌, ◌++◌, length, map, sum_by, sym, ◌∙◌, ap, subst, subst₂, arith}
+use Rattle.ct_poly.proofs.Base.{append-nil, Less, Equal, Bool, true, false, cond, sum_by-cons, sum_by_push, sum_by-append, Group, monomials}
+use Rattle.ct_poly.proofs.Base.{int_group, IsCanonical-merged, Keys, IsCanonical, keep, merged, poly_of, plus, poly_of-merged}
 use Rattle.std.proofs.lemmas.List.{map-append}
-use Rattle.std.proofs.lemmas.List.Sums.{sum_by-cons, sum_by_push, sum_by-append}
-use Rattle.ct_algebra.specs.Group.{Group}
-use Rattle.ct_algebra.specs.Monomial.{monomials}
-use Rattle.ct_algebra.specs.WholeNumbers.{int_group}
-use Rattle.ct_algebra.specs.Laws.Terms.{IsCanonical-merged}
-use Rattle.ct_algebra.specs.Terms.{Keys, IsCanonical, keep, merged}
-use Rattle.ct_algebra.specs.Polynomial.{poly_of, plus}
-use Rattle.ct_algebra.proofs.Merging as merging
-use Rattle.ct_algebra.proofs.TermLists.{poly_of-merged}
 use Rattle.ct_poly.specs.declared.term.Term.{Term}
 use Rattle.ct_poly.specs.Terms.{entry, size_of, IsFalling, IsListOf, poly_of_terms}
 use Rattle.ct_poly.proofs.TermLists.{abs_sum}
+use Rattle.ct_algebra.proofs.Merging as merging
 
 -- a measure that a sum can only lower
 abbrev pub IsSubadditive : {A : Type 0} → Group A → (A → ℕ) → Type 0

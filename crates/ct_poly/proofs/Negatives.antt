@@ -1,14 +1,8 @@
 -- The list of negative terms is that of the negative: main lemma `negative_is`, which `negative_of_terms` cites.
 -- Monomials stay, so the list falls as before, and the values at each monomial are negated.
-use Rattle.std.proofs.Common.{◌≡◌, refl, suc, ℤ, pos, negsuc, zero, neg_ℤ, nat_abs, List, [], ◌∷◌, length, sym, ◌∙◌, ap, ap₂, subst, arith, true, false, cond, T, Ordering, Less, Equal, Greater}
-use Rattle.std.proofs.lemmas.List.Sums.{sum_by-cons}
-use Rattle.std.proofs.lemmas.Int.{ints}
-use Rattle.ct_algebra.specs.Group.{neg_sum}
-use Rattle.ct_algebra.specs.Monomial.{Mono, monomials, mono_cmp}
-use Rattle.ct_algebra.specs.WholeNumbers.{int_group, int_is_zero}
-use Rattle.ct_algebra.specs.Terms.{AllBelow, value_at, pick, by_order}
-use Rattle.ct_algebra.specs.Sums.{same_sum, at-sum_of, at-negated}
-use Rattle.ct_algebra.specs.Polynomial.{polys, poly_of}
+use Rattle.ct_poly.proofs.Base.{◌≡◌, refl, suc, ℤ, pos, negsuc, zero, neg_ℤ, nat_abs, List, [], ◌∷◌, length, sym, ◌∙◌, ap, ap₂, subst, arith, true}
+use Rattle.ct_poly.proofs.Base.{false, cond, T, Ordering, Less, Equal, Greater, sum_by-cons, ints, neg_sum, Mono, monomials, mono_cmp, int_group}
+use Rattle.ct_poly.proofs.Base.{int_is_zero, AllBelow, value_at, pick, by_order, same_sum, at-sum_of, at-negated, polys, poly_of}
 use Rattle.ct_poly.specs.declared.term.Term.{Term}
 use Rattle.ct_poly.specs.Terms.{entries, size_of, IsFalling, IsListOf, poly_of_terms}
 use Rattle.ct_poly.proofs.Termwise.{made_of}

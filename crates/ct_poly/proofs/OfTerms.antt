@@ -1,12 +1,7 @@
 -- From a polynomial to the list of its terms, and from a list that was made back to a polynomial, through what `terms`,
 -- `within_limits` and `of_terms` say. Main lemmas `list_of` and `poly_is`. Cited by the methods outside of `poly`.
-use Rattle.std.proofs.Common.{◌≡◌, ℕ, ◌≤◌, ℤ, List, length, sym, ◌∙◌, ap, subst, arith}
-use Rattle.ct_algebra.specs.Monomial.{Mono, monomials}
-use Rattle.ct_algebra.specs.Sums.{same_terms}
-use Rattle.ct_algebra.specs.Terms.{IsCanonical, EachTerm}
-use Rattle.ct_algebra.specs.WholeNumbers.{int_group}
-use Rattle.ct_algebra.specs.Polynomial.{Polynomial, poly_of, norm_of, count, norm, terms-poly_of}
-use Rattle.ct_checked.specs.Limits.{most_terms, largest_norm}
+use Rattle.ct_poly.proofs.Base.{◌≡◌, ℕ, ◌≤◌, ℤ, List, length, sym, ◌∙◌, ap, subst, arith, Mono, monomials, same_terms, IsCanonical, EachTerm}
+use Rattle.ct_poly.proofs.Base.{int_group, Polynomial, poly_of, norm_of, count, norm, terms-poly_of, most_terms, largest_norm}
 use Rattle.ct_poly.specs.declared.term.Term.{Term}
 use Rattle.ct_poly.specs.Terms.{entries, IsListOf, poly_of_terms}
 use Rattle.ct_poly.specs.Content.{TermDivides, divided}

@@ -1,13 +1,12 @@
 -- Which kind the rules of overflow name, from the measures of the operands: one lemma for each way out of a test in code.
 -- Main lemmas `sum_fits` and `product_fits`, and with them `sum_fits_only` and `product_fits_only`: no rule is broken
 -- exactly where the measures are within the limits. Each is read off the definition, by the truth of its tests.
-use Rattle.std.proofs.Common.{◌≡◌, refl, ℕ, ◌+◌, ◌*◌, ◌≤◌, ◌<◌, Bool, true, false, ltb, cond, sym, ◌∙◌, ap, arith, Some, None, Option, ltb-false, lt-ltb, le-ltb, eq-eqb, ne_eqb}
-use Rattle.ct_algebra.specs.Names.{Name}
-use Rattle.ct_algebra.specs.Polynomial.{Polynomial, count, norm, degree}
-use Rattle.ct_checked.specs.Limits.{largest_degree, most_terms, largest_norm}
-use Rattle.ct_checked.specs.declared.fault.Kind.{Kind}
-use Rattle.ct_checked.specs.declared.fault.Kind.TheVariants.{Degree, Terms, Number}
-use Rattle.ct_poly.specs.Measures.{broken, sum_overflow, product_overflow, shift_overflow, derivative_overflow, shift_count, shift_norm, derivative_norm}
+use Rattle.ct_poly.proofs.Base.{◌≡◌, refl, ℕ, ◌+◌, ◌*◌, ◌≤◌, ◌<◌, Bool, true, false, ltb, cond, sym, ◌∙◌, ap, arith, Some, None, Option, ltb-false}
+use Rattle.ct_poly.proofs.Base.{eq-eqb, ne_eqb, Name, Polynomial, count, norm, degree, largest_degree, most_terms, largest_norm, Kind, Degree, Terms}
+use Rattle.ct_poly.proofs.Base.{Number}
+use Rattle.std.proofs.Common.{lt-ltb, le-ltb}
+use Rattle.ct_poly.specs.Measures.{broken, sum_overflow, product_overflow, shift_overflow, derivative_overflow, shift_count, shift_norm}
+use Rattle.ct_poly.specs.Measures.{derivative_norm}
 
 -- ---- one rule
 

@@ -1,23 +1,13 @@
 -- The coefficients in some of the names: the list of terms that `part_of_terms` makes is that of `coefficient_in`.
 -- Main lemmas `part_kept`, `chosen` and `cleared`. Where two terms have the same part in the names, their order is that of
 -- their other parts, so the list falls; and the value adds up term by term.
-use Rattle.std.proofs.Common.{◌≡◌, ◌↔◌, refl, ℕ, suc, ◌≤◌, ◌<◌, ℤ, nat_abs, Bool, true, false, cond, eqb, T, List, [], ◌∷◌, ◌++◌, map, length, Ordering, Less, Equal, Greater, is_eq, Some, sym, ◌∙◌, ap, ap₂, subst, arith, append_assoc, append-nil}
-use Rattle.std.specs.Prelude.{IsTrue, All}
-use Rattle.std.proofs.lemmas.List.Sums.{sum_by-cons}
-use Rattle.ct_algebra.specs.Coefficients.{is_chosen, inside, outside, term_in, coefficient_in}
-use Rattle.ct_algebra.specs.Laws.Terms.{less_is}
-use Rattle.ct_algebra.specs.Monomial.{Mono, monomials, mono_ordered, mono_cmp, mono_tied, mono_same, exp, exp-mono, same_mono, ◌·◌, ·_comm}
-use Rattle.ct_algebra.specs.Names.{Name, name_with}
-use Rattle.ct_algebra.specs.Polynomial.{Polynomial, polys, poly_of, norm_of}
-use Rattle.ct_algebra.specs.Substitution.{term}
-use Rattle.ct_algebra.specs.Sums.{lift}
-use Rattle.ct_algebra.specs.Terms.{AllBelow, IsCanonical, is_less, by_order, sum_over}
-use Rattle.ct_algebra.specs.WholeNumbers.{int_group}
+use Rattle.ct_poly.proofs.Base.{◌≡◌, ◌↔◌, refl, ℕ, suc, ◌≤◌, ◌<◌, ℤ, nat_abs, Bool, true, false, cond, eqb, T, List, [], ◌∷◌, ◌++◌, map, length}
+use Rattle.ct_poly.proofs.Base.{Ordering, Less, Equal, Greater, is_eq, Some, sym, ◌∙◌, ap, ap₂, subst, arith, append_assoc, append-nil, IsTrue, All}
+use Rattle.ct_poly.proofs.Base.{sum_by-cons, is_chosen, inside, outside, term_in, coefficient_in, less_is, Mono, monomials, mono_ordered, mono_cmp}
+use Rattle.ct_poly.proofs.Base.{mono_tied, mono_same, exp, exp-mono, same_mono, ◌·◌, ·_comm, Name, name_with, Polynomial, polys, poly_of, norm_of}
+use Rattle.ct_poly.proofs.Base.{term, lift, AllBelow, IsCanonical, is_less, by_order, sum_over, int_group, sum_of-append, sum_of-none, over, over-·}
+use Rattle.ct_poly.proofs.Base.{with_exponent, exp-with_exponent}
 use Rattle.ct_algebra.proofs.CoefficientLaws.{outside-inside}
-use Rattle.ct_algebra.proofs.TermProducts.{sum_of-append, sum_of-none}
-use Rattle.ct_mono.specs.Division.{over, over-·}
-use Rattle.ct_mono.specs.Exponents.{with_exponent}
-use Rattle.ct_mono.proofs.ExponentLaws.{exp-with_exponent}
 use Rattle.ct_poly.specs.declared.term.Term.{Term}
 use Rattle.ct_poly.specs.Parts.{term_list_in, terms_in}
 use Rattle.ct_poly.specs.Terms.{entries, entry, poly_of_terms}

@@ -1,20 +1,13 @@
 -- The rows of a table are the powers of a name plus a number: `first_row` and `next_row` keep `AreRows`, and `table_is` ends
 -- it. `binomial_listed` is the list of the name plus the number. Cited by the functions that make the table.
-use Rattle.std.proofs.Common.{◌≡◌, refl, ℕ, zero, suc, ◌+◌, ◌*◌, ◌^◌, ◌≤◌, ◌<◌, ℤ, pos, negsuc, nat_abs, max, List, [], ◌∷◌, ◌++◌, length, get_or, sym, ◌∙◌, ap, ap₂, subst, arith, T, cond, true, false, Less, eqb, Bool, eqb→eq, mul-le-mul_left, mul-le-mul_right, length-append, leb, leb-true, leb-false}
-use Rattle.std.proofs.Math.Nat.{pow-succ', pow-zero, pow-le-pow_right}
+use Rattle.ct_poly.proofs.Base.{◌≡◌, refl, ℕ, zero, suc, ◌+◌, ◌*◌, ◌^◌, ◌≤◌, ◌<◌, ℤ, pos, negsuc, nat_abs, max, List, [], ◌∷◌, ◌++◌, length, get_or}
+use Rattle.ct_poly.proofs.Base.{sym, ◌∙◌, ap, ap₂, subst, arith, T, cond, true, false, Less, eqb, Bool, eqb→eq, mul-le-mul_left, mul-le-mul_right}
+use Rattle.ct_poly.proofs.Base.{length-append, leb, leb-true, leb-false, pow-succ', pow-zero, pow-le-pow_right, eqb-false, sum_by-cons, mono_cmp, exp}
+use Rattle.ct_poly.proofs.Base.{unit, total, less_of_total, name_with, symbol, polys, plus_is, times, term, name_is, number_is, one_is, is_less}
+use Rattle.ct_poly.proofs.Base.{int_is_zero, largest_degree, largest_norm, total-unit, total-with_exponent}
 use Rattle.std.proofs.Math.ListN.{get_or-append}
-use Rattle.std.proofs.lemmas.Bool.{eqb-false}
 use Rattle.std.proofs.lemmas.List.{get_or_push}
-use Rattle.std.proofs.lemmas.List.Sums.{sum_by-cons}
 use Rattle.std.specs.Global.{Vec}
-use Rattle.ct_algebra.specs.Monomial.{mono_cmp, exp, unit, total, less_of_total}
-use Rattle.ct_algebra.specs.Names.{name_with, symbol}
-use Rattle.ct_algebra.specs.Polynomial.{polys, plus_is, times}
-use Rattle.ct_algebra.specs.Substitution.{term, name_is, number_is, one_is}
-use Rattle.ct_algebra.specs.Terms.{is_less}
-use Rattle.ct_algebra.specs.WholeNumbers.{int_is_zero}
-use Rattle.ct_checked.specs.Limits.{largest_degree, largest_norm}
-use Rattle.ct_mono.proofs.ExponentLaws.{total-unit, total-with_exponent}
 use Rattle.ct_poly.specs.declared.term.Term.{Term}
 use Rattle.ct_poly.specs.Powers.{binomial, IsPower}
 use Rattle.ct_poly.specs.Terms.{size_of, greatest_total, shift_size, greatest_exp, IsFalling, IsListOf, CanMultiply, poly_of_terms}

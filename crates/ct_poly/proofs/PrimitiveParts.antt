@@ -1,22 +1,14 @@
 -- The primitive form and the primitive part: that they are quotients of the whole, and that nothing more divides them.
 -- Main lemmas `form_whole`, `part_whole`, `form_primitive` and `part_primitive`, which the laws of contents cite.
 -- What divides the quotients, times the content divides the coefficients; so it divides 1. Likewise of monomials.
-use Rattle.std.proofs.Common.{◌≡◌, ◌↔◌, refl, ℕ, zero, suc, ◌-◌, ◌*◌, ◌/◌, ℤ, pos, negsuc, neg_ℤ, ◌*ℤ◌, int_div, unsigned_abs, Bool, true, false, cond, T, List, [], ◌∷◌, sym, ◌∙◌, ap, subst, arith}
-use Rattle.std.specs.Int.{◌∣◌}
-use Rattle.std.proofs.lemmas.Int.{unsigned_abs-mul}
-use Rattle.std.proofs.lemmas.Nat.Gcd.{dvd_refl}
+use Rattle.ct_poly.proofs.Base.{◌≡◌, ◌↔◌, refl, ℕ, zero, suc, ◌-◌, ◌*◌, ◌/◌, ℤ, pos, negsuc, neg_ℤ, ◌*ℤ◌, int_div, unsigned_abs, Bool, true, false}
+use Rattle.ct_poly.proofs.Base.{cond, T, List, [], ◌∷◌, sym, ◌∙◌, ap, subst, arith, ◌∣◌, unsigned_abs-mul, dvd_refl, div-mul_cancel}
+use Rattle.ct_poly.proofs.Base.{mul-dvd-mul_right, dvd_of_mul-dvd-mul_right, eq-one_of_dvd-one, one-mul, neg_mul, mul_neg, not_zero, Mono, monomials}
+use Rattle.ct_poly.proofs.Base.{exp, exp-mono, exp-·, exp-unit, same_mono, unit, ◌·◌, has_none, none_of, EachTerm, EachTerm-weaker, IsCanonical}
+use Rattle.ct_poly.proofs.Base.{int_group, int_ring, int_is_zero, term, number, number_is, Polynomial, polys, times, Divides}
 use Rattle.std.proofs.Math.IntN.{negsuc-*ℤ-pos, neg_ℤ-neg_ℤ}
-use Rattle.std.proofs.Math.Nat.{div-mul_cancel, mul-dvd-mul_right, dvd_of_mul-dvd-mul_right, eq-one_of_dvd-one, one-mul}
-use Rattle.ct_algebra.specs.Ring.{neg_mul, mul_neg}
-use Rattle.ct_algebra.specs.Laws.Terms.{not_zero}
-use Rattle.ct_algebra.specs.Monomial.{Mono, monomials, exp, exp-mono, exp-·, exp-unit, same_mono, unit, ◌·◌}
-use Rattle.ct_algebra.specs.Sums.{has_none, none_of}
-use Rattle.ct_algebra.specs.Terms.{EachTerm, EachTerm-weaker, IsCanonical}
-use Rattle.ct_algebra.specs.WholeNumbers.{int_group, int_ring, int_is_zero}
-use Rattle.ct_algebra.specs.Substitution.{term, number, number_is}
-use Rattle.ct_algebra.specs.Polynomial.{Polynomial, polys, times}
-use Rattle.ct_mono.specs.Division.{Divides}
-use Rattle.ct_poly.specs.Content.{DividesAll, TermDivides, content, common_monomial, is_negative, is_below_zero, leads_below_zero, signed, signed_content, divided, primitive_form, primitive_part}
+use Rattle.ct_poly.specs.Content.{DividesAll, TermDivides, content, common_monomial, is_negative, is_below_zero, leads_below_zero, signed}
+use Rattle.ct_poly.specs.Content.{signed_content, divided, primitive_form, primitive_part}
 use Rattle.ct_poly.proofs.CommonMonomials.{divides_exp, exp_divides, without, common_divides, common_greatest}
 use Rattle.ct_poly.proofs.Contents.{content_is}
 use Rattle.ct_poly.proofs.DividedTerms.{quotients, divisor_nonzero, divided_whole, divided_terms}

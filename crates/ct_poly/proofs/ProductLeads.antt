@@ -1,19 +1,13 @@
 -- The leading term of a product is the product of the leading terms: main lemma `product_leads`.
 -- Each further product of two terms has a lower monomial, since products keep the order; and the product of the leading
 -- coefficients is not zero.
-use Rattle.std.proofs.Common.{◌≡◌, ℤ, pos, ◌+ℤ◌, ◌*ℤ◌, T, true, false, cond, List, [], ◌∷◌, Some, Less, sym, ◌∙◌, ap, ap₂, subst}
+use Rattle.ct_poly.proofs.Base.{◌≡◌, ℤ, pos, ◌+ℤ◌, ◌*ℤ◌, T, true, false, cond, List, [], ◌∷◌, Some, Less, sym, ◌∙◌, ap, ap₂, subst, leading, Leads}
+use Rattle.ct_poly.proofs.Base.{at_below, at_head, not_zero, less_is, AllBelow_trans, Mono, monomials, mono_ordered, mono_cmp, ◌·◌, ·_comm}
+use Rattle.ct_poly.proofs.Base.{Polynomial, polys, poly_of, plus, times, terms-poly_of, zero_mul, at, at-⊕, none, EachTerm-⊕, AllBelow, IsCanonical}
+use Rattle.ct_poly.proofs.Base.{EachTerm, is_less, value_at, int_group, int_ring, int_domain, int_is_zero, plus_zero, row_of, poly_of-row}
+use Rattle.ct_poly.proofs.Base.{row_canonical, times-append, sum_of-none}
 use Rattle.ct_algebra.specs.Domain.{product_nonzero}
-use Rattle.ct_algebra.specs.Leading.{leading, Leads}
-use Rattle.ct_algebra.specs.Laws.Terms.{at_below, at_head, not_zero, less_is, AllBelow_trans}
-use Rattle.ct_algebra.specs.Monomial.{Mono, monomials, mono_ordered, mono_cmp, ◌·◌, ·_comm}
-use Rattle.ct_algebra.specs.Polynomial.{Polynomial, polys, poly_of, plus, times, terms-poly_of}
-use Rattle.ct_algebra.specs.Ring.{zero_mul}
-use Rattle.ct_algebra.specs.Sums.{at, at-⊕, none, EachTerm-⊕}
-use Rattle.ct_algebra.specs.Terms.{AllBelow, IsCanonical, EachTerm, is_less, value_at}
-use Rattle.ct_algebra.specs.WholeNumbers.{int_group, int_ring, int_domain, int_is_zero, plus_zero}
 use Rattle.ct_algebra.proofs.LeadingTerms.{leads_of, leading-Leads}
-use Rattle.ct_algebra.proofs.TermLists.{row_of, poly_of-row, row_canonical, times-append}
-use Rattle.ct_algebra.proofs.TermProducts.{sum_of-none}
 use Rattle.ct_poly.proofs.TermLists.{rebuilt}
 
 -- the order of products

@@ -1,15 +1,10 @@
 -- The lists that the code makes of products: main lemmas `multiple_is` for one term times a list, `product_of_none`,
 -- `product_of_one` and `product_of_halves` for a list that is halved. Cited by product.rt.
 -- Products keep the order of monomials, and the product distributes over the halves.
-use Rattle.std.proofs.Common.{◌≡◌, refl, ℕ, ◌+◌, ◌*◌, ◌≤◌, max, ◌*ℤ◌, nat_abs, List, [], ◌∷◌, ◌++◌, length, get_or, sym, ◌∙◌, ap, ap₂, subst, subst₂, arith, length-append}
-use Rattle.std.proofs.lemmas.List.Sums.{sum_by-cons, sum_by-append}
-use Rattle.ct_algebra.specs.Monomial.{monomials, ◌·◌}
-use Rattle.ct_algebra.specs.WholeNumbers.{int_group}
-use Rattle.ct_algebra.specs.Terms.{IsCanonical}
-use Rattle.ct_algebra.proofs.Merging.{front_canonical, back_canonical}
-use Rattle.ct_algebra.specs.Polynomial.{polys, poly_of, norm_of, plus, times, times_is}
-use Rattle.ct_algebra.proofs.TermLists.{poly_of-none, poly_of-row, times-append, row_canonical, row_of}
-use Rattle.ct_checked.specs.Limits.{largest_norm}
+use Rattle.ct_poly.proofs.Base.{◌≡◌, refl, ℕ, ◌+◌, ◌*◌, ◌≤◌, max, ◌*ℤ◌, nat_abs, List, [], ◌∷◌, ◌++◌, length, get_or, sym, ◌∙◌, ap, ap₂, subst}
+use Rattle.ct_poly.proofs.Base.{subst₂, arith, length-append, sum_by-cons, sum_by-append, monomials, ◌·◌, int_group, IsCanonical, front_canonical}
+use Rattle.ct_poly.proofs.Base.{back_canonical, polys, poly_of, norm_of, plus, times, times_is, poly_of-none, poly_of-row, times-append}
+use Rattle.ct_poly.proofs.Base.{row_canonical, row_of, largest_norm}
 use Rattle.ct_poly.specs.declared.term.Term.{Term}
 use Rattle.ct_poly.specs.Terms.{entries, entry, size_of, greatest_total, IsListOf, CanMultiply, poly_of_terms}
 use Rattle.ct_poly.proofs.TermLists.{no_length, entries-append, length-entries, norm_of-entries, norm_of-row, length-row}

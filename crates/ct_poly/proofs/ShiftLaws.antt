@@ -1,12 +1,10 @@
 -- A shift by any number is a substitution, and σ and δ are the shift by 1 and the derivative. Main lemmas `shift_substitutes`
 -- and `symbols_shift`, which the laws cite.
 -- A map of rings is known from its values at the names, and each name is the one that is shifted or another one.
-use Rattle.std.specs.Prelude.{◌≡◌, ◌≢◌, refl, ℕ, ℤ, pos, Bool, true, false, cond, eqb}
-use Rattle.std.proofs.Common.{sym, ◌∙◌, ap, subst, eq-eqb, eqb-true}
+use Rattle.ct_poly.proofs.Base.{◌≡◌, ◌≢◌, ℕ, ℤ, pos, Bool, true, false, cond, eqb, sym, ◌∙◌, ap, subst, eq-eqb, eqb-true, Name, place, same_place}
+use Rattle.ct_poly.proofs.Base.{Polynomial, polys, plus, times, name, number, shift_ring_hom, shift-name, same_ring_hom, IsRingHom}
+use Rattle.std.specs.Prelude.{refl}
 use Rattle.ct_algebra.specs.Actions.{sigma_by, delta_by}
-use Rattle.ct_algebra.specs.Names.{Name, place, same_place}
-use Rattle.ct_algebra.specs.Polynomial.{Polynomial, polys, plus, times}
-use Rattle.ct_algebra.specs.Substitution.{name, number, shift_ring_hom, shift-name, same_ring_hom, IsRingHom}
 use Rattle.ct_poly.specs.Measures.{shifted, steps}
 use Rattle.ct_poly.specs.ShiftLaws.{ShiftIsSubstitution, SymbolsShiftAndDerive}
 use Rattle.ct_poly.proofs.ShiftValues.{number-zero}

@@ -1,15 +1,10 @@
 -- What a shift makes of one term, and of a sum: main lemmas `shifted-term` and `shifted-sum`, and `shifted_by_none`.
 -- A monomial is its power of the name times the rest, which the shift leaves as it is: by induction over products of names.
-use Rattle.std.proofs.Common.{◌≡◌, refl, ℕ, suc, ◌+◌, ◌<◌, ℤ, pos, Bool, true, false, eqb, cond, sym, ◌∙◌, ap, ap₂, subst, arith, T, eqb→eq, eq-eqb}
-use Rattle.ct_algebra.specs.Derivative.{zero_term}
-use Rattle.ct_algebra.specs.Group.{none_added}
-use Rattle.ct_algebra.specs.Monomial.{Mono, exp, exp-·, exp-unit, unit, ◌·◌, same_mono}
-use Rattle.ct_algebra.specs.Names.{Name, name_with, place, same_place, symbol, exp-symbol, by_symbols}
-use Rattle.ct_algebra.specs.Polynomial.{Polynomial, polys, plus_is, times, times_is}
-use Rattle.ct_algebra.specs.Ring.{mul_left_comm}
-use Rattle.ct_algebra.specs.Substitution.{term, name, number, number_is, number-*, times_one, symbol_term, shift, shift_ring_hom, shift-name, same_ring_hom, IsRingHom}
-use Rattle.ct_mono.specs.Exponents.{with_exponent}
-use Rattle.ct_mono.proofs.ExponentLaws.{exp-with_exponent}
+use Rattle.ct_poly.proofs.Base.{◌≡◌, refl, ℕ, suc, ◌+◌, ◌<◌, ℤ, pos, Bool, true, false, eqb, cond, sym, ◌∙◌, ap, ap₂, subst, arith, T, eqb→eq, eq-eqb}
+use Rattle.ct_poly.proofs.Base.{zero_term, none_added, Mono, exp, exp-·, exp-unit, unit, ◌·◌, same_mono, Name, name_with, place, same_place, symbol}
+use Rattle.ct_poly.proofs.Base.{exp-symbol, by_symbols, Polynomial, polys, plus_is, times, times_is, mul_left_comm, term, name, number, number_is}
+use Rattle.ct_poly.proofs.Base.{number-*, times_one, symbol_term, shift, shift_ring_hom, shift-name, same_ring_hom, IsRingHom, with_exponent}
+use Rattle.ct_poly.proofs.Base.{exp-with_exponent}
 use Rattle.ct_poly.specs.Measures.{shifted, steps}
 use Rattle.ct_poly.specs.Powers.{binomial, power_of}
 use Rattle.ct_poly.proofs.TermLists.{place-name_with}

@@ -1,22 +1,16 @@
 -- The lists that the code makes of shifts: `shifted_of_one` for one term by a row of the table, `shifted_of_none` and
 -- `shifted_of_halves` for a list that is halved. Main lemma `shifted_of_halves`; cited by shift.rt.
 -- The table reaches the greatest exponent, and its powers are within the limit since some term has a coefficient.
-use Rattle.std.proofs.Common.{◌≡◌, ℕ, ◌+◌, ◌*◌, ◌^◌, ◌≤◌, ◌<◌, nat_abs, max, List, [], ◌∷◌, ◌++◌, length, sym, ◌∙◌, ap, ap₂, subst, subst₂, arith, mul-le-mul_left}
-use Rattle.std.proofs.lemmas.List.Sums.{sum_by-cons, sum_by-append}
-use Rattle.ct_algebra.specs.Monomial.{monomials, exp, total}
-use Rattle.ct_algebra.specs.Names.{name_with}
-use Rattle.ct_algebra.specs.Polynomial.{polys, plus, plus_is, times}
-use Rattle.ct_algebra.specs.Terms.{IsCanonical}
-use Rattle.ct_algebra.specs.WholeNumbers.{int_group}
-use Rattle.ct_algebra.proofs.Merging.{front_canonical, back_canonical}
-use Rattle.ct_mono.specs.Exponents.{with_exponent}
-use Rattle.ct_checked.specs.Limits.{largest_degree, largest_norm}
-use Rattle.ct_mono.proofs.ExponentLaws.{total-with_exponent}
+use Rattle.ct_poly.proofs.Base.{◌≡◌, ℕ, ◌+◌, ◌*◌, ◌^◌, ◌≤◌, ◌<◌, nat_abs, max, List, [], ◌∷◌, ◌++◌, length, sym, ◌∙◌, ap, ap₂, subst, subst₂, arith}
+use Rattle.ct_poly.proofs.Base.{mul-le-mul_left, sum_by-cons, sum_by-append, monomials, exp, total, name_with, polys, plus, plus_is, times}
+use Rattle.ct_poly.proofs.Base.{IsCanonical, int_group, front_canonical, back_canonical, with_exponent, largest_degree, largest_norm}
+use Rattle.ct_poly.proofs.Base.{total-with_exponent}
 use Rattle.ct_poly.specs.declared.term.Term.{Term}
 use Rattle.ct_poly.specs.declared.shift.Powers.{Powers}
 use Rattle.ct_poly.specs.Measures.{shifted}
 use Rattle.ct_poly.specs.Powers.{IsPower, CanShift}
-use Rattle.ct_poly.specs.Terms.{entries, size_of, greatest_total, greatest_exp, shift_size, shift_length, IsFalling, IsListOf, CanMultiply, poly_of_terms}
+use Rattle.ct_poly.specs.Terms.{entries, size_of, greatest_total, greatest_exp, shift_size, shift_length, IsFalling, IsListOf, CanMultiply}
+use Rattle.ct_poly.specs.Terms.{poly_of_terms}
 use Rattle.ct_poly.proofs.BinomialPowers.{power_few, power_low}
 use Rattle.ct_poly.proofs.Products.{size_of-one, greatest_total-append}
 use Rattle.ct_poly.proofs.ShiftValues.{shifted-sum, shifted-zero, shifted-term}

@@ -1,18 +1,12 @@
 -- Tables of coefficients: a multiple of a list of terms is added in place. Main lemmas `table_of_zeros`, `table_added` and
 -- `zero_table`.
 -- A term of a monomial of the box changes the one cell of its monomial, since other monomials have other cells.
-use Rattle.std.proofs.Common.{◌≡◌, refl, ℕ, zero, suc, ◌<◌, ℤ, pos, ◌+ℤ◌, ◌*ℤ◌, Bool, true, false, eqb, List, [], ◌∷◌, All, length, slice_index_or, slice_set, Option, Some, None, sym, ◌∙◌, ap, ap₂, subst, subst₂, arith, eqb-true, get_or-set_same, get_or-set_other}
-use Rattle.std.proofs.lemmas.Bool.{eqb-false}
+use Rattle.ct_poly.proofs.Base.{◌≡◌, refl, ℕ, zero, suc, ◌<◌, ℤ, pos, ◌+ℤ◌, ◌*ℤ◌, Bool, true, false, eqb, List, [], ◌∷◌, All, length, slice_index_or}
+use Rattle.ct_poly.proofs.Base.{slice_set, Option, Some, None, sym, ◌∙◌, ap, ap₂, subst, subst₂, arith, eqb-true, get_or-set_same, get_or-set_other}
+use Rattle.ct_poly.proofs.Base.{eqb-false, MatchOption, Mono, ◌·◌, Polynomial, polys, coefficient, plus, times, ring4, reify, mul_zero, term, term-*}
+use Rattle.ct_poly.proofs.Base.{plus_zero, Divides, over, over-meaning}
 use Rattle.std.proofs.lemmas.List.{length-set}
-use Rattle.std.specs.Prelude.{MatchOption}
-use Rattle.ct_algebra.specs.Monomial.{Mono, ◌·◌}
-use Rattle.ct_algebra.specs.Polynomial.{Polynomial, polys, coefficient, plus, times}
-use Rattle.ct_algebra.specs.RingTactic.{ring4, reify}
-use Rattle.ct_algebra.specs.Ring.{mul_zero}
-use Rattle.ct_algebra.specs.Substitution.{term, term-*}
-use Rattle.ct_algebra.specs.WholeNumbers.{plus_zero}
 use Rattle.ct_algebra.proofs.PolynomialLawProofs.{finite_maps}
-use Rattle.ct_mono.specs.Division.{Divides, over, over-meaning}
 use Rattle.ct_poly.specs.declared.term.Term.{Term}
 use Rattle.ct_poly.specs.Cells.{IsTable, AreMultiplesInBox, cell_of, cells_of, spots, added}
 use Rattle.ct_poly.specs.Terms.{poly_of_terms}

@@ -1,23 +1,15 @@
 -- What a list of terms says of the polynomial that it stands for: its terms, measures and names.
 -- Main lemmas `terms_of`, `norm_of-terms`, `count_of-terms` and `degree_of-terms`, which the methods of `Poly` cite.
 -- A canonical list is the terms of its polynomial, so each is an equation of lists.
-use Rattle.std.proofs.Common.{◌≡◌, ◌↔◌, pos, negsuc, ◌+ℤ◌, ◌*ℤ◌, ◌*◌, refl, ℕ, zero, suc, ◌+◌, ◌≤◌, ◌<◌, ℤ, nat_abs, List, [], ◌∷◌, ◌++◌, length, sum_by, Ordering, Less, Equal, Greater, is_eq, T, cond, true, false, sym, ◌∙◌, ap, ap₂, subst, arith}
-use Rattle.std.specs.Prelude.{IsTrue}
-use Rattle.std.proofs.lemmas.List.Sums.{sum_by-cons}
-use Rattle.std.proofs.lemmas.Int.{ints, unsigned_abs-mul}
-use Rattle.ct_algebra.specs.Monomial.{Mono, monomials, ◌·◌, mono_cmp, mono_tied, mono_same, total, total_of_less}
-use Rattle.ct_algebra.specs.Terms.{AllBelow}
-use Rattle.ct_algebra.specs.Laws.Terms.{less_is}
-use Rattle.ct_algebra.specs.Names.{place, name_with}
-use Rattle.ct_algebra.specs.Sums.{none, same_terms}
-use Rattle.ct_algebra.specs.WholeNumbers.{int_group, int_is_zero}
-use Rattle.ct_algebra.proofs.TermLists.{row_of, poly_of-row, row_canonical}
-use Rattle.ct_algebra.proofs.TermProducts.{sum_of-none, sum_of-one, sum_of-append}
-use Rattle.ct_algebra.specs.Substitution.{term, term_is}
-use Rattle.ct_algebra.specs.Polynomial.{Polynomial, polys, poly_of, times, count, norm, norm_of, degree, terms-poly_of}
-use Rattle.ct_algebra.specs.Polynomial as poly
+use Rattle.ct_poly.proofs.Base.{◌≡◌, ◌↔◌, pos, negsuc, ◌+ℤ◌, ◌*ℤ◌, ◌*◌, refl, ℕ, zero, suc, ◌+◌, ◌≤◌, ◌<◌, ℤ, nat_abs, List, [], ◌∷◌, ◌++◌, length}
+use Rattle.ct_poly.proofs.Base.{sum_by, Ordering, Less, Equal, Greater, is_eq, T, cond, true, false, sym, ◌∙◌, ap, ap₂, subst, arith, IsTrue}
+use Rattle.ct_poly.proofs.Base.{sum_by-cons, ints, unsigned_abs-mul, Mono, monomials, ◌·◌, mono_cmp, mono_tied, mono_same, total, total_of_less}
+use Rattle.ct_poly.proofs.Base.{AllBelow, less_is, place, name_with, none, same_terms, int_group, int_is_zero, row_of, poly_of-row, row_canonical}
+use Rattle.ct_poly.proofs.Base.{sum_of-none, sum_of-one, sum_of-append, term, term_is, Polynomial, polys, poly_of, times, count, norm, norm_of}
+use Rattle.ct_poly.proofs.Base.{degree, terms-poly_of}
 use Rattle.ct_poly.specs.declared.term.Term.{Term}
 use Rattle.ct_poly.specs.Terms.{entries, entry, size_of, greatest_total, IsFalling, poly_of_terms}
+use Rattle.ct_algebra.specs.Polynomial as poly
 
 -- a falling list is the terms of its polynomial
 pub terms_of : {p : Polynomial} (ts : List Term) → IsFalling ts → poly_of_terms ts ≡ p → entries ts ≡ p.terms

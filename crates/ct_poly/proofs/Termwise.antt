@@ -3,9 +3,8 @@
 --     IsMaking f ts done rest    what is done, and what the rest will give, are the whole
 -- Main lemmas `making_more` and `making_ended`; `head_low` bounds the total of the term at hand. Cited by
 -- the loops of negatives, multiples and derivatives.
-use Rattle.std.proofs.Common.{◌≡◌, ℕ, ◌≤◌, List, [], ◌∷◌, ◌++◌, length, sum_by, sym, ◌∙◌, ap, subst, arith, append_assoc, append-nil}
-use Rattle.std.proofs.lemmas.List.Sums.{sum_by-cons}
-use Rattle.ct_algebra.specs.Monomial.{total}
+use Rattle.ct_poly.proofs.Base.{◌≡◌, ℕ, ◌≤◌, List, [], ◌∷◌, ◌++◌, length, sum_by, sym, ◌∙◌, ap, subst, arith, append_assoc, append-nil, sum_by-cons}
+use Rattle.ct_poly.proofs.Base.{total}
 use Rattle.ct_poly.specs.declared.term.Term.{Term}
 use Rattle.ct_poly.specs.Terms.{greatest_total}
 use Rattle.ct_poly.proofs.TermLists.{no_length}

@@ -1,25 +1,18 @@
 -- From the list that an operation has made to the polynomial that it answers: what the type asks of the list, and the
 -- value. Main lemmas `list_is_kept`, `sum_is`, `difference_answers` and `product_answers`, which the methods of `Poly` cite.
-use Rattle.std.proofs.Common.{◌≡◌, refl, ℕ, ◌+◌, ◌*◌, ◌^◌, ◌≤◌, ◌<◌, ℤ, pos, zero, suc, nat_abs, List, [], ◌∷◌, length, sum_by, sym, ◌∙◌, ap, ap₂, subst, arith, None, Ok, Err, mul-pos, ◌⊎◌, inl, inr}
-use Rattle.std.proofs.Math.Nat.{pow-zero, pow-succ'}
-use Rattle.std.proofs.lemmas.List.Sums.{sum_by-cons}
-use Rattle.ct_algebra.specs.Sums.{none, none_of, has_none}
-use Rattle.ct_algebra.specs.Derivative.{derived}
-use Rattle.ct_algebra.specs.Monomial.{Mono, monomials, exp}
-use Rattle.ct_algebra.specs.Names.{place, name_with}
-use Rattle.ct_checked.specs.declared.fault.Kind.TheVariants.{Terms, Number}
-use Rattle.ct_algebra.specs.WholeNumbers.{int_group}
-use Rattle.ct_algebra.specs.Polynomial.{Polynomial, polys, plus, times, times_is, count, norm}
-use Rattle.ct_algebra.specs.Ring.{zero_mul, mul_zero}
-use Rattle.ct_algebra.specs.Substitution.{term}
-use Rattle.ct_checked.specs.Limits.{most_terms, largest_norm}
+use Rattle.ct_poly.proofs.Base.{◌≡◌, refl, ℕ, ◌+◌, ◌*◌, ◌^◌, ◌≤◌, ◌<◌, ℤ, pos, zero, suc, nat_abs, List, [], ◌∷◌, length, sum_by, sym, ◌∙◌, ap, ap₂}
+use Rattle.ct_poly.proofs.Base.{subst, arith, None, Ok, Err, mul-pos, ◌⊎◌, inl, inr, pow-zero, pow-succ', sum_by-cons, none, none_of, has_none}
+use Rattle.ct_poly.proofs.Base.{derived, Mono, monomials, exp, place, name_with, Terms, Number, int_group, Polynomial, polys, plus, times, times_is}
+use Rattle.ct_poly.proofs.Base.{count, norm, zero_mul, mul_zero, term, most_terms, largest_norm, verdict, verdict_fits, verdict_refuses}
 use Rattle.ct_poly.specs.declared.term.Term.{Term}
-use Rattle.ct_checked.specs.Checked.{verdict, verdict_fits, verdict_refuses}
 use Rattle.ct_poly.specs.Terms.{size_of, IsFalling, IsListOf, CanMultiply, poly_of_terms, derivative_size, shift_size, shift_length}
-use Rattle.ct_poly.specs.Measures.{minus, sum_overflow, product_overflow, checked_minus, checked_times, derivative_norm, checked_derived, shifted, shift_norm, shift_count, shift_overflow, checked_shifted}
-use Rattle.ct_poly.proofs.OverflowRules.{ProductFits, sum_fits_only, product_fits_only, product_with_zero, derivative_too_large, derivative_fits, shift_too_many, shift_too_large, shift_fits, shift_by_none_fits}
+use Rattle.ct_poly.specs.Measures.{minus, sum_overflow, product_overflow, checked_minus, checked_times, derivative_norm, checked_derived, shifted}
+use Rattle.ct_poly.specs.Measures.{shift_norm, shift_count, shift_overflow, checked_shifted}
+use Rattle.ct_poly.proofs.OverflowRules.{ProductFits, sum_fits_only, product_fits_only, product_with_zero, derivative_too_large, derivative_fits}
+use Rattle.ct_poly.proofs.OverflowRules.{shift_too_many, shift_too_large, shift_fits, shift_by_none_fits}
 use Rattle.ct_poly.proofs.ShiftValues.{shifted_by_none}
-use Rattle.ct_poly.proofs.TermLists.{count_of-terms, norm_of-terms, degree_of-terms, greatest_total-falling, poly_of-one, terms_of, sum_by-entries, place-name_with, nonzero_coef}
+use Rattle.ct_poly.proofs.TermLists.{count_of-terms, norm_of-terms, degree_of-terms, greatest_total-falling, poly_of-one, terms_of, sum_by-entries}
+use Rattle.ct_poly.proofs.TermLists.{place-name_with, nonzero_coef}
 
 -- the list of a polynomial, as the type keeps it
 abbrev pub IsKept : Polynomial → List Term → Type 0

@@ -1,16 +1,10 @@
 -- A whole number that divides each coefficient divides each term. Main lemmas `each_divides`, which `over_whole` cites,
 -- `divided_by_one`, and `divides_negative`.
-use Rattle.std.specs.Prelude.{◌≡◌, refl, ℕ, zero, suc, ◌*◌, ◌/◌, ℤ, pos, negsuc, neg_ℤ, ◌*ℤ◌, unsigned_abs, true, false, cond, List, [], ◌∷◌, map}
-use Rattle.std.specs.Int.{◌∣◌}
-use Rattle.std.proofs.Common.{◌∙◌, ap, sym, subst, arith, T}
-use Rattle.std.proofs.Math.Nat.{div-mul_cancel, one-dvd}
-use Rattle.ct_algebra.specs.Monomial.{Mono, monomials, unit, exp-unit}
-use Rattle.ct_algebra.specs.Polynomial.{Polynomial, polys, poly_of, terms-poly_of, times}
-use Rattle.ct_algebra.specs.Ring.{neg_mul}
-use Rattle.ct_algebra.specs.Substitution.{number_is, one_is}
-use Rattle.ct_algebra.specs.Sums.{negated}
-use Rattle.ct_algebra.specs.Terms.{AllBelow, EachTerm, IsCanonical}
-use Rattle.ct_algebra.specs.WholeNumbers.{int_group, int_is_zero, int_ring}
+use Rattle.ct_poly.proofs.Base.{◌≡◌, ℕ, zero, suc, ◌*◌, ◌/◌, ℤ, pos, negsuc, neg_ℤ, ◌*ℤ◌, unsigned_abs, true, false, cond, List, [], ◌∷◌, map, ◌∣◌}
+use Rattle.ct_poly.proofs.Base.{◌∙◌, ap, sym, subst, arith, T, div-mul_cancel, one-dvd, Mono, monomials, unit, exp-unit, Polynomial, polys, poly_of}
+use Rattle.ct_poly.proofs.Base.{terms-poly_of, times, neg_mul, number_is, one_is, negated, AllBelow, EachTerm, IsCanonical, int_group, int_is_zero}
+use Rattle.ct_poly.proofs.Base.{int_ring}
+use Rattle.std.specs.Prelude.{refl}
 use Rattle.ct_poly.specs.Content.{DividesAll, DividesEach, TermDivides, divided}
 use Rattle.ct_poly.proofs.CommonMonomials.{exp_divides}
 use Rattle.ct_poly.proofs.DividedTerms.{divided_whole}

@@ -1,12 +1,9 @@
 -- When a whole number passes its limit. Main lemmas `whole_fits`, `whole_passes` and `whole_ok`; `fits`, `passes` and `kept` are
 -- the same of any limit.
-use Rattle.std.specs.Prelude.{◌≡◌, refl, ℕ, ◌<◌, ◌≤◌, Bool, true, false, ltb, Ok, Err, None}
-use Rattle.std.proofs.Common.{ap, arith}
-use Rattle.std.proofs.lemmas.Bool.{lt-ltb, le-ltb, ltb-false}
-use Rattle.ct_checked.specs.Checked.{verdict, verdict_ok, verdict_fits, verdict_refuses}
-use Rattle.ct_checked.specs.Limits.{largest_norm}
-use Rattle.ct_checked.specs.declared.fault.Kind.{Kind}
-use Rattle.ct_checked.specs.declared.fault.Kind.TheVariants.{Number}
+use Rattle.ct_poly.proofs.Base.{◌≡◌, ℕ, ◌<◌, ◌≤◌, Bool, true, false, ltb, Ok, Err, None, ap, arith, lt-ltb, le-ltb, verdict, verdict_ok, verdict_fits}
+use Rattle.ct_poly.proofs.Base.{verdict_refuses, largest_norm, Kind, Number}
+use Rattle.std.specs.Prelude.{refl}
+use Rattle.std.proofs.lemmas.Bool.{ltb-false}
 use Rattle.ct_poly.specs.Measures.{broken}
 use Rattle.ct_poly.specs.Wholes.{checked_whole}
 

@@ -1,11 +1,9 @@
 -- Quotients of whole numbers without a remainder: what `whole_over` finds, and that it finds all.
 -- Main lemmas `whole_over_is`, `whole_over-*` and `whole_over_none`. The remainder of a multiple is a multiple of the divisor
 -- that is smaller than it, so it is zero.
-use Rattle.std.proofs.Common.{◌≡◌, refl, ℕ, zero, suc, ◌*◌, ◌/◌, ◌<◌, ◌≤◌, ℤ, pos, negsuc, ◌+ℤ◌, ◌*ℤ◌, neg_ℤ, unsigned_abs, int_div, int_rem, Bool, true, false, cond, Option, Some, None, sym, ◌∙◌, ap, subst, arith}
-use Rattle.std.proofs.lemmas.Int.{ints, quot-rem, rem_below, unsigned_abs-mul}
-use Rattle.std.proofs.Math.Nat.{div-mul-le_self}
-use Rattle.ct_algebra.specs.RingTactic.{ring3, reify}
-use Rattle.ct_algebra.specs.WholeNumbers.{int_ring, int_is_zero, zero_is}
+use Rattle.ct_poly.proofs.Base.{◌≡◌, refl, ℕ, zero, suc, ◌*◌, ◌/◌, ◌<◌, ◌≤◌, ℤ, pos, negsuc, ◌+ℤ◌, ◌*ℤ◌, neg_ℤ, unsigned_abs, int_div, int_rem, Bool}
+use Rattle.ct_poly.proofs.Base.{true, false, cond, Option, Some, None, sym, ◌∙◌, ap, subst, arith, ints, quot-rem, rem_below, unsigned_abs-mul}
+use Rattle.ct_poly.proofs.Base.{div-mul-le_self, ring3, reify, int_ring, int_is_zero, zero_is}
 use Rattle.ct_poly.specs.Division.{whole_over}
 
 pub zero_abs : (x : ℤ) → unsigned_abs x ≡ 0 → x ≡ pos 0

@@ -1,31 +1,24 @@
 -- Results are within the measures of their operands: main lemmas `sums_within`, `differences_within`, `products_within`,
 -- `shifts_within` and `derivatives_within`, which the laws cite.
 -- Inserting a term adds at most one term and its absolute value; products and shifts are sums over the terms.
-use Rattle.std.proofs.Common.{◌≡◌, refl, ℕ, zero, suc, ◌+◌, ◌*◌, ◌^◌, ◌≤◌, ◌<◌, ℤ, pos, ◌+ℤ◌, nat_abs, List, [], ◌∷◌, length, sum_by, sym, ◌∙◌, ap, ap₂, subst, arith, Bool, true, false, cond, T, Ordering, Less, Equal, Greater, mul-le-mul_left, mul-le-mul_right}
-use Rattle.std.proofs.Math.Nat.{pow-succ', pow-zero}
-use Rattle.std.proofs.lemmas.List.Sums.{sum_by-cons}
-use Rattle.ct_algebra.specs.Derivative.{derived}
-use Rattle.ct_algebra.specs.Monomial.{Mono, monomials, mono_cmp, exp, total, total-·, unit}
-use Rattle.ct_algebra.specs.Names.{Name, name_with, place, place_small, same_place, symbol}
-use Rattle.ct_algebra.specs.Polynomial.{Polynomial, polys, poly_of, plus, plus_is, times, times_is, count, norm, norm_of, degree, degree_of, degree_greatest}
-use Rattle.ct_algebra.specs.Sums.{◌⊕◌, none, single, EachTerm-⊕}
-use Rattle.ct_algebra.specs.Ring.{zero_mul}
-use Rattle.ct_mono.specs.Exponents.{with_exponent}
+use Rattle.ct_poly.proofs.Base.{◌≡◌, refl, ℕ, zero, suc, ◌+◌, ◌*◌, ◌^◌, ◌≤◌, ◌<◌, ℤ, pos, ◌+ℤ◌, nat_abs, List, [], ◌∷◌, length, sum_by, sym, ◌∙◌, ap}
+use Rattle.ct_poly.proofs.Base.{ap₂, subst, arith, Bool, true, false, cond, T, Ordering, Less, Equal, Greater, mul-le-mul_left, mul-le-mul_right}
+use Rattle.ct_poly.proofs.Base.{pow-succ', pow-zero, sum_by-cons, derived, Mono, monomials, mono_cmp, exp, total, total-·, unit, Name, name_with}
+use Rattle.ct_poly.proofs.Base.{place, place_small, same_place, symbol, Polynomial, polys, poly_of, plus, plus_is, times, times_is, count, norm}
+use Rattle.ct_poly.proofs.Base.{norm_of, degree, degree_of, degree_greatest, ◌⊕◌, none, single, EachTerm-⊕, zero_mul, with_exponent, term, term_is}
+use Rattle.ct_poly.proofs.Base.{name, name_is, number, number_is, one_is, EachTerm, EachTerm-weaker, IsCanonical, by_order, insert, keep, merged}
+use Rattle.ct_poly.proofs.Base.{int_group, int_is_zero, row_of, times-append, sum_of-none}
 use Rattle.ct_poly.proofs.BinomialPowers.{count_power}
 use Rattle.ct_poly.proofs.ShiftValues.{shifted-sum, shifted-zero, shifted-term}
-use Rattle.ct_algebra.specs.Substitution.{term, term_is, name, name_is, number, number_is, one_is}
 use Rattle.ct_poly.specs.Powers.{binomial, power_of}
-use Rattle.ct_algebra.specs.Terms.{EachTerm, EachTerm-weaker, IsCanonical, by_order, insert, keep, merged}
-use Rattle.ct_algebra.specs.WholeNumbers.{int_group, int_is_zero}
-use Rattle.ct_algebra.proofs.TermLists.{row_of, times-append}
-use Rattle.ct_algebra.proofs.TermProducts.{sum_of-none}
 use Rattle.ct_poly.specs.declared.term.Term.{Term}
 use Rattle.ct_poly.specs.Measures.{minus, shifted, shift_count, shift_norm, derivative_norm}
 use Rattle.ct_poly.specs.Terms.{entries, shift_size, shift_length, IsFalling, poly_of_terms}
 use Rattle.ct_poly.proofs.Derivatives.{derivative, derivative_is}
 use Rattle.ct_poly.proofs.Negatives.{negative, negative_is}
 use Rattle.ct_poly.proofs.Termwise.{made_of}
-use Rattle.ct_poly.proofs.TermLists.{norm_of-terms, count_of-terms, sum_by-entries, rebuilt, poly_of-single, terms-multiple, abs_sum, norm_of-row, length-row, place-name_with, no_terms, poly_of-cons}
+use Rattle.ct_poly.proofs.TermLists.{norm_of-terms, count_of-terms, sum_by-entries, rebuilt, poly_of-single, terms-multiple, abs_sum, norm_of-row}
+use Rattle.ct_poly.proofs.TermLists.{length-row, place-name_with, no_terms, poly_of-cons}
 
 abbrev size : Mono × ℤ → ℕ
 size e = nat_abs e.1

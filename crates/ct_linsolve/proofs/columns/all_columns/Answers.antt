@@ -1,7 +1,4 @@
-use Rattle.std.proofs.Common.{◌∙◌, ◌+◌, ◌-◌, ◌<◌, sym, ap, subst, arith, rules}
-use Rattle.std.specs.List.{range_with_len}
-use Rattle.ct_checked.specs.Checked.{AnswersBy, ◌>>=◌}
-use Rattle.ct_checked.specs.Traversal.{checked_fold}
+use Rattle.ct_linsolve.proofs.Base.{◌∙◌, ◌+◌, ◌-◌, ◌<◌, sym, ap, subst, arith, rules, range_with_len, AnswersBy, ◌>>=◌, checked_fold}
 use Rattle.ct_linsolve.specs.EchelonViews.{working_of}
 use Rattle.ct_linsolve.specs.Elimination.{checked_column}
 use Rattle.ct_linsolve.proofs.FromZero.{range_opens}

@@ -1,7 +1,4 @@
-use Rattle.std.proofs.Common.{◌≡◌, ◌≢◌, ◌+◌}
-use Rattle.std.specs.List.{range_with_len}
-use Rattle.ct_algebra.specs.Polynomial.{polys}
-use Rattle.ct_checked.specs.Traversal.{checked_fold}
+use Rattle.ct_linsolve.proofs.Base.{◌≡◌, ◌≢◌, ◌+◌, range_with_len, polys, checked_fold}
 use Rattle.ct_linsolve.specs.EchelonViews.{working_of}
 use Rattle.ct_linsolve.specs.Elimination.{checked_column}
 use Rattle.ct_linsolve.proofs.columns.all_columns.Given as goal

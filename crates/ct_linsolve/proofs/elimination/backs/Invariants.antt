@@ -1,4 +1,4 @@
-use Rattle.std.proofs.Common.{◌≡◌, ◌++◌, length, map, drop}
+use Rattle.ct_linsolve.proofs.Base.{◌≡◌, ◌++◌, length, map, drop}
 use Rattle.ct_linsolve.specs.Views.{rows_of}
 use Rattle.ct_linsolve.proofs.elimination.backs.Given as goal
 

@@ -1,4 +1,4 @@
-use Rattle.std.proofs.Common.{◌∙◌, sym, ap, map, take, drop}
+use Rattle.ct_linsolve.proofs.Base.{◌∙◌, sym, ap, map, take, drop}
 use Rattle.ct_linsolve.specs.EchelonViews.{working_of}
 use Rattle.ct_linsolve.specs.Elimination.{with_unit}
 use Rattle.ct_linsolve.specs.Views.{rows_of, pivots_of}

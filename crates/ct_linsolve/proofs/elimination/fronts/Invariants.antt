@@ -1,4 +1,4 @@
-use Rattle.std.proofs.Common.{◌≡◌, ◌++◌, length, map, take}
+use Rattle.ct_linsolve.proofs.Base.{◌≡◌, ◌++◌, length, map, take}
 use Rattle.ct_linsolve.specs.Views.{rows_of}
 use Rattle.ct_linsolve.proofs.elimination.fronts.Given as goal
 

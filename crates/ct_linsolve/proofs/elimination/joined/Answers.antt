@@ -1,4 +1,4 @@
-use Rattle.std.proofs.Common.{arith}
+use Rattle.ct_linsolve.proofs.Base.{arith}
 use Rattle.ct_linsolve.proofs.Starts.{unit_of}
 use Rattle.ct_linsolve.proofs.elimination.joined.Goals as goal
 

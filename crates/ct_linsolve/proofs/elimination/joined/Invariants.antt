@@ -1,4 +1,4 @@
-use Rattle.std.proofs.Common.{◌≡◌, ◌+◌, ◌++◌}
+use Rattle.ct_linsolve.proofs.Base.{◌≡◌, ◌+◌, ◌++◌}
 use Rattle.ct_linsolve.specs.Elimination.{unit_row}
 use Rattle.ct_linsolve.proofs.Starts.{unit_behind}
 use Rattle.ct_linsolve.proofs.elimination.joined.Given as goal

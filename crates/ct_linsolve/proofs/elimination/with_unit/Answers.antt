@@ -1,5 +1,4 @@
-use Rattle.std.proofs.Common.{ap, length, sym}
-use Rattle.std.proofs.lemmas.List.{length-map}
+use Rattle.ct_linsolve.proofs.Base.{ap, length, sym, length-map}
 use Rattle.ct_linsolve.specs.Views.{rows_of}
 use Rattle.ct_linsolve.proofs.Starts.{unit_start}
 use Rattle.ct_linsolve.proofs.elimination.with_unit.Goals as goal

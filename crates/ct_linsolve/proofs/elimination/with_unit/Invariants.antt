@@ -1,4 +1,4 @@
-use Rattle.std.proofs.Common.{◌≡◌, length}
+use Rattle.ct_linsolve.proofs.Base.{◌≡◌, length}
 use Rattle.ct_linsolve.specs.Elimination.{with_unit}
 use Rattle.ct_linsolve.specs.Views.{rows_of}
 use Rattle.ct_linsolve.proofs.Starts.{rows_behind}

@@ -1,5 +1,4 @@
-use Rattle.std.proofs.Common.{◌≡◌, arith, rules}
-use Rattle.ct_checked.specs.Limits.{largest_norm}
+use Rattle.ct_linsolve.proofs.Base.{◌≡◌, arith, rules, largest_norm}
 use Rattle.ct_linsolve.proofs.RowContents.{gathering_start, gathered, gathered_all, gathered_to_one, gcd_within}
 use Rattle.ct_linsolve.proofs.entries.content_of.Goals as goal
 

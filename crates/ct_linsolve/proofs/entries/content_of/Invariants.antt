@@ -1,5 +1,4 @@
-use Rattle.std.proofs.Common.{◌≤◌, length}
-use Rattle.ct_checked.specs.Limits.{largest_norm}
+use Rattle.ct_linsolve.proofs.Base.{◌≤◌, length, largest_norm}
 use Rattle.ct_linsolve.proofs.RowContents.{IsGathering}
 use Rattle.ct_linsolve.proofs.entries.content_of.Given as goal
 

@@ -1,6 +1,4 @@
-use Rattle.std.proofs.Common.{◌∙◌, sym, subst}
-use Rattle.std.specs.Prelude.{IfSome}
-use Rattle.ct_poly.specs.Crossing.{IsCrossQuotient}
+use Rattle.ct_linsolve.proofs.Base.{◌∙◌, sym, subst, IfSome, IsCrossQuotient}
 use Rattle.ct_linsolve.proofs.DividedRows.{crossed_by_one}
 use Rattle.ct_linsolve.proofs.Pivots.{one_nonzero}
 use Rattle.ct_linsolve.proofs.entries.cross.Goals as goal

@@ -1,4 +1,4 @@
-use Rattle.std.proofs.Common.{◌≡◌, length}
+use Rattle.ct_linsolve.proofs.Base.{◌≡◌, length}
 use Rattle.ct_linsolve.specs.Elimination.{crossed_entry, checked_crossed}
 use Rattle.ct_linsolve.proofs.FromZero.{behind}
 use Rattle.ct_linsolve.proofs.entries.crossed.Given as goal

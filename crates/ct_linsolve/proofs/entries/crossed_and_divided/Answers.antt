@@ -1,5 +1,4 @@
-use Rattle.std.proofs.Common.{subst}
-use Rattle.std.specs.Prelude.{IfSome}
+use Rattle.ct_linsolve.proofs.Base.{subst, IfSome}
 use Rattle.ct_linsolve.specs.DividedRow.{IsDividedRow}
 use Rattle.ct_linsolve.proofs.DividedRows.{divided_answers}
 use Rattle.ct_linsolve.proofs.entries.crossed_and_divided.Goals as goal

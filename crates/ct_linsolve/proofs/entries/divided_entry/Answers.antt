@@ -1,5 +1,4 @@
-use Rattle.std.proofs.Common.{◌≡◌, true, false, rules, subst}
-use Rattle.std.proofs.lemmas.Result.{IfOk-weaker}
+use Rattle.ct_linsolve.proofs.Base.{◌≡◌, true, false, rules, subst, IfOk-weaker}
 use Rattle.ct_linsolve.specs.DividedRow.{IsDividedEntry}
 use Rattle.ct_linsolve.proofs.DividedRows.{zero_divided, both_zero_divided, cross_divided, IfSome_weaker}
 use Rattle.ct_linsolve.proofs.entries.divided_entry.Goals as goal

@@ -1,5 +1,4 @@
-use Rattle.std.proofs.Common.{eqb, rules, subst}
-use Rattle.std.specs.Prelude.{IfSome}
+use Rattle.ct_linsolve.proofs.Base.{eqb, rules, subst, IfSome}
 use Rattle.ct_linsolve.specs.DividedRow.{IsDividedEntry}
 use Rattle.ct_linsolve.proofs.DividedRows.{dividing_start, dividing_more, divided_all}
 use Rattle.ct_linsolve.proofs.entries.divided_row.Goals as goal

@@ -1,4 +1,4 @@
-use Rattle.std.proofs.Common.{length}
+use Rattle.ct_linsolve.proofs.Base.{length}
 use Rattle.ct_linsolve.proofs.DividedRows.{IsDividing}
 use Rattle.ct_linsolve.proofs.entries.divided_row.Given as goal
 

@@ -1,7 +1,4 @@
-use Rattle.std.proofs.Common.{◌<◌, ◌≤◌, ◌∙◌, sym, ap, map, subst, rules, pos}
-use Rattle.std.proofs.lemmas.Result.{IfOk-weaker}
-use Rattle.ct_algebra.specs.Monomial.{unit}
-use Rattle.ct_poly.specs.Content.{IsContentOf, divided}
+use Rattle.ct_linsolve.proofs.Base.{◌<◌, ◌≤◌, ◌∙◌, sym, ap, map, subst, rules, pos, IfOk-weaker, unit, IsContentOf, divided}
 use Rattle.ct_linsolve.specs.Rows.{row_terms}
 use Rattle.ct_linsolve.proofs.RowContents.{content_kept, content_divided}
 use Rattle.ct_linsolve.proofs.entries.over_content.Goals as goal

@@ -1,6 +1,4 @@
-use Rattle.std.proofs.Common.{◌++◌, ap, sym, map, pos}
-use Rattle.ct_algebra.specs.Monomial.{unit}
-use Rattle.ct_poly.specs.Content.{divided}
+use Rattle.ct_linsolve.proofs.Base.{◌++◌, ap, sym, map, pos, unit, divided}
 use Rattle.ct_linsolve.proofs.RowContents.{divides_row}
 use Rattle.ct_linsolve.proofs.entries.over_number.Goals as goal
 

@@ -1,4 +1,4 @@
-use Rattle.ct_checked.proofs.Traversals.{each_behind}
+use Rattle.ct_linsolve.proofs.Base.{each_behind}
 use Rattle.ct_linsolve.specs.Rows.{quotient_or_none}
 use Rattle.ct_linsolve.proofs.entries.quotients.Goals as goal
 

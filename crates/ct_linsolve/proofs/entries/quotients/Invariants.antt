@@ -1,5 +1,4 @@
-use Rattle.std.proofs.Common.{◌≡◌, length}
-use Rattle.ct_checked.proofs.Traversals.{behind}
+use Rattle.ct_linsolve.proofs.Base.{◌≡◌, length, behind}
 use Rattle.ct_linsolve.specs.Rows.{quotient_or_none, quotients}
 use Rattle.ct_linsolve.proofs.entries.quotients.Given as goal
 

@@ -1,7 +1,4 @@
-use Rattle.std.proofs.Common.{◌∙◌, ◌+◌, ◌-◌, ◌<◌, sym, ap, subst, arith, rules}
-use Rattle.std.specs.List.{range_with_len}
-use Rattle.ct_checked.specs.Checked.{Answers, ◌>>=◌}
-use Rattle.ct_checked.specs.Traversal.{checked_fold}
+use Rattle.ct_linsolve.proofs.Base.{◌∙◌, ◌+◌, ◌-◌, ◌<◌, sym, ap, subst, arith, rules, range_with_len, Answers, ◌>>=◌, checked_fold}
 use Rattle.ct_linsolve.specs.Products.{with_product}
 use Rattle.ct_linsolve.specs.Views.{rows_of}
 use Rattle.ct_linsolve.proofs.FromZero.{range_opens}

@@ -1,6 +1,4 @@
-use Rattle.std.proofs.Common.{◌≡◌, ◌+◌, length}
-use Rattle.std.specs.List.{range_with_len}
-use Rattle.ct_checked.specs.Traversal.{checked_fold}
+use Rattle.ct_linsolve.proofs.Base.{◌≡◌, ◌+◌, length, range_with_len, checked_fold}
 use Rattle.ct_linsolve.specs.Products.{checked_entry, with_product}
 use Rattle.ct_linsolve.specs.Views.{rows_of}
 use Rattle.ct_linsolve.proofs.multiplication.entry_product.Given as goal

@@ -1,6 +1,4 @@
-use Rattle.std.proofs.Common.{◌≡◌, ◌∙◌, ap, Ok}
-use Rattle.std.proofs.lemmas.List.{length-map}
-use Rattle.ct_checked.proofs.Traversals.{behind, each_behind}
+use Rattle.ct_linsolve.proofs.Base.{◌≡◌, ◌∙◌, ap, Ok, length-map, behind, each_behind}
 use Rattle.ct_linsolve.specs.Products.{checked_product, checked_products}
 use Rattle.ct_linsolve.specs.Views.{rows_of}
 use Rattle.ct_linsolve.proofs.MultipliedOut.{none_left, products_are}

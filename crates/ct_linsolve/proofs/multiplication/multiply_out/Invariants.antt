@@ -1,5 +1,4 @@
-use Rattle.std.proofs.Common.{◌≡◌, length}
-use Rattle.ct_checked.proofs.Traversals.{behind}
+use Rattle.ct_linsolve.proofs.Base.{◌≡◌, length, behind}
 use Rattle.ct_linsolve.specs.Products.{checked_product, checked_products}
 use Rattle.ct_linsolve.specs.Views.{rows_of}
 use Rattle.ct_linsolve.proofs.multiplication.multiply_out.Given as goal

@@ -1,7 +1,5 @@
-use Rattle.std.proofs.Common.{◌∙◌, ◌+◌, ◌-◌, ◌<◌, ◌++◌, ◌∷◌, [], sym, ap, subst, arith, rules}
-use Rattle.std.specs.List.{range_with_len}
-use Rattle.ct_checked.specs.Checked.{AnswersBy, ◌>>=◌}
-use Rattle.ct_checked.proofs.Traversals.{behind, each_behind}
+use Rattle.ct_linsolve.proofs.Base.{◌∙◌, ◌+◌, ◌-◌, ◌<◌, ◌++◌, ◌∷◌, [], sym, ap, subst, arith, rules, range_with_len, AnswersBy, ◌>>=◌, behind}
+use Rattle.ct_linsolve.proofs.Base.{each_behind}
 use Rattle.ct_linsolve.specs.Products.{checked_entry}
 use Rattle.ct_linsolve.specs.Views.{rows_of}
 use Rattle.ct_linsolve.proofs.FromZero.{range_opens}

@@ -1,6 +1,4 @@
-use Rattle.std.proofs.Common.{◌≡◌, ◌+◌}
-use Rattle.std.specs.List.{range_with_len}
-use Rattle.ct_checked.proofs.Traversals.{behind}
+use Rattle.ct_linsolve.proofs.Base.{◌≡◌, ◌+◌, range_with_len, behind}
 use Rattle.ct_linsolve.specs.Products.{checked_entry, checked_product}
 use Rattle.ct_linsolve.specs.Views.{rows_of}
 use Rattle.ct_linsolve.proofs.multiplication.row_product.Given as goal

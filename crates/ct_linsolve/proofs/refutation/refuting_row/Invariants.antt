@@ -1,4 +1,4 @@
-use Rattle.std.proofs.Common.{◌≡◌, length}
+use Rattle.ct_linsolve.proofs.Base.{◌≡◌, length}
 use Rattle.ct_linsolve.specs.Refuting.{pivot_of}
 use Rattle.ct_linsolve.specs.Views.{pivots_of}
 use Rattle.ct_linsolve.proofs.refutation.refuting_row.Given as goal

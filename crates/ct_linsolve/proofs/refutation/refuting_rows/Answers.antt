@@ -1,8 +1,5 @@
-use Rattle.std.proofs.Common.{◌≡◌, ◌<◌, ◌∙◌, ◌++◌, ◌∷◌, [], ◌-◌, ap, sym, map, arith, rules, subst}
-use Rattle.std.specs.List.{range_with_len}
-use Rattle.std.proofs.lemmas.List.{length-map, map-append}
-use Rattle.ct_algebra.specs.Polynomial.{polys}
-use Rattle.ct_telescoping.specs.Refutation.{Isolates}
+use Rattle.ct_linsolve.proofs.Base.{◌≡◌, ◌<◌, ◌∙◌, ◌++◌, ◌∷◌, [], ◌-◌, ap, sym, map, arith, rules, subst, range_with_len, length-map, map-append}
+use Rattle.ct_linsolve.proofs.Base.{polys, Isolates}
 use Rattle.ct_linsolve.specs.Refuting.{column_row, refuting_row, refuting_rows}
 use Rattle.ct_linsolve.specs.Views.{eliminated, pivots_of, rows_of}
 use Rattle.ct_linsolve.proofs.Refuted.{listed_from, listed_more, rows_refute}

@@ -1,4 +1,4 @@
-use Rattle.std.proofs.Common.{◌≡◌, ◌+◌}
+use Rattle.ct_linsolve.proofs.Base.{◌≡◌, ◌+◌}
 use Rattle.ct_linsolve.specs.Refuting.{refuting_row, refuting_rows}
 use Rattle.ct_linsolve.specs.Views.{pivots_of, rows_of}
 use Rattle.ct_linsolve.proofs.Refuted.{listed_behind}

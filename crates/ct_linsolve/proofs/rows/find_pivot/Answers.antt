@@ -1,4 +1,4 @@
-use Rattle.std.proofs.Common.{arith}
+use Rattle.ct_linsolve.proofs.Base.{arith}
 use Rattle.ct_linsolve.specs.Views.{pivots_of, rows_of}
 use Rattle.ct_linsolve.proofs.Pivots.{seek_is}
 use Rattle.ct_linsolve.proofs.rows.find_pivot.Goals as goal

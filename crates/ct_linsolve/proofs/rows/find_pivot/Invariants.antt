@@ -1,4 +1,4 @@
-use Rattle.std.proofs.Common.{◌≡◌, length, ◌+◌}
+use Rattle.ct_linsolve.proofs.Base.{◌≡◌, length, ◌+◌}
 use Rattle.ct_linsolve.specs.Elimination.{pivot_row}
 use Rattle.ct_linsolve.specs.Views.{pivots_of, rows_of}
 use Rattle.ct_linsolve.proofs.Pivots.{seek}

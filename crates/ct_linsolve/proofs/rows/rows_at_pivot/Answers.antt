@@ -1,9 +1,7 @@
-use Rattle.std.proofs.Common.{◌≡◌, ◌∙◌, ap, sym, []}
-use Rattle.std.proofs.lemmas.List.{get_or-map}
+use Rattle.ct_linsolve.proofs.Base.{◌≡◌, ◌∙◌, ap, sym, [], get_or-map, checked_each_from}
 use Rattle.ct_linsolve.specs.Elimination.{row_after}
 use Rattle.ct_linsolve.specs.Rows.{row_at}
 use Rattle.ct_linsolve.specs.Views.{rows_of}
-use Rattle.ct_checked.specs.Traversal.{checked_each_from}
 use Rattle.ct_linsolve.proofs.FromZero.{zero_behind}
 use Rattle.ct_linsolve.proofs.rows.rows_at_pivot.Goals as goal
 

@@ -1,4 +1,4 @@
-use Rattle.std.proofs.Common.{◌≡◌, length}
+use Rattle.ct_linsolve.proofs.Base.{◌≡◌, length}
 use Rattle.ct_linsolve.specs.Elimination.{checked_rows, row_after}
 use Rattle.ct_linsolve.specs.Views.{rows_of}
 use Rattle.ct_linsolve.proofs.FromZero.{behind}

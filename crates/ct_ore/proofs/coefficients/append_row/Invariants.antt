@@ -1,5 +1,4 @@
-use Rattle.std.proofs.Common.{◌≡◌, ◌++◌, length}
-use Rattle.ct_poly.specs.Terms.{entries}
+use Rattle.ct_ore.proofs.Base.{◌≡◌, ◌++◌, length, entries}
 use Rattle.ct_ore.specs.CoefficientTerms.{row_of}
 use Rattle.ct_ore.proofs.coefficients.append_row.Given as goal
 

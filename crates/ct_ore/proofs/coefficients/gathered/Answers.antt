@@ -1,4 +1,4 @@
-use Rattle.std.proofs.Common.{◌≡◌, ◌++◌, [], ◌∷◌, rules, sym, subst, take, drop, length, refl}
+use Rattle.ct_ore.proofs.Base.{◌≡◌, ◌++◌, [], ◌∷◌, rules, sym, subst, take, drop, length, refl}
 use Rattle.ct_ore.specs.declared.op.OpTerm.{OpTerm}
 use Rattle.ct_ore.specs.Lists.{AllHave, IsGathering}
 use Rattle.ct_ore.proofs.Gathering.{gathering_start, rest_written, run_fits, gathering_step, gathering_end}

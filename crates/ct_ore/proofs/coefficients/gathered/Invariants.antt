@@ -1,4 +1,4 @@
-use Rattle.std.proofs.Common.{length}
+use Rattle.ct_ore.proofs.Base.{length}
 use Rattle.ct_ore.specs.Lists.{IsGathering}
 use Rattle.ct_ore.proofs.coefficients.gathered.Given as goal
 

@@ -1,5 +1,4 @@
-use Rattle.std.proofs.Common.{◌≡◌, ◌+◌, ◌-◌, ◌/◌, ◌<◌, ℕ, suc, ◌∙◌, subst, sym, ap, arith, length, take, drop}
-use Rattle.ct_algebra.specs.Monomial.{mono_cmp, mono_same, mono_tied}
+use Rattle.ct_ore.proofs.Base.{◌≡◌, ◌+◌, ◌-◌, ◌/◌, ◌<◌, ℕ, suc, ◌∙◌, subst, sym, ap, arith, length, take, drop, mono_cmp, mono_same, mono_tied}
 use Rattle.ct_ore.specs.declared.coefficient_term.CoefficientTerm.{CoefficientTerm}
 use Rattle.ct_ore.specs.Lists.{AllHave, StartsOther}
 use Rattle.ct_ore.proofs.Runs.{ends_other, same_before, other_at}

@@ -1,4 +1,4 @@
-use Rattle.std.proofs.Common.{◌-◌, ◌≤◌, length, take, drop}
+use Rattle.ct_ore.proofs.Base.{◌-◌, ◌≤◌, length, take, drop}
 use Rattle.ct_ore.specs.Lists.{AllHave, StartsOther}
 use Rattle.ct_ore.proofs.coefficients.run_length.Given as goal
 

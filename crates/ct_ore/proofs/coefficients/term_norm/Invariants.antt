@@ -1,4 +1,4 @@
-use Rattle.std.proofs.Common.{◌≡◌, ◌+◌, length}
+use Rattle.ct_ore.proofs.Base.{◌≡◌, ◌+◌, length}
 use Rattle.ct_ore.specs.Terms.{op_entries}
 use Rattle.ct_ore.specs.TermSums.{entries_norm}
 use Rattle.ct_ore.proofs.coefficients.term_norm.Given as goal

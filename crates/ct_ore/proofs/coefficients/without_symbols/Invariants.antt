@@ -1,4 +1,4 @@
-use Rattle.std.proofs.Common.{◌≡◌, map, take}
+use Rattle.ct_ore.proofs.Base.{◌≡◌, map, take}
 use Rattle.ct_ore.specs.Lists.{without_symbols}
 use Rattle.ct_ore.proofs.coefficients.without_symbols.Given as goal
 

@@ -1,7 +1,4 @@
-use Rattle.std.proofs.Common.{◌∙◌, sym, ap}
-use Rattle.ct_algebra.specs.Polynomial.{degree, degree_of}
-use Rattle.ct_poly.specs.Terms.{entries}
-use Rattle.ct_poly.proofs.TermLists.{no_length}
+use Rattle.ct_ore.proofs.Base.{◌∙◌, sym, ap, degree, degree_of, entries, no_length}
 use Rattle.ct_ore.proofs.degrees.degree_of_poly.Goals as goal
 
 pub returns-in_default-clause-value : goal.returns-in_default-clause-value

@@ -1,6 +1,4 @@
-use Rattle.std.proofs.Common.{◌≡◌, ◌≤◌, max, map, length}
-use Rattle.ct_algebra.specs.Monomial.{total}
-use Rattle.ct_checked.specs.Limits.{largest_degree}
+use Rattle.ct_ore.proofs.Base.{◌≡◌, ◌≤◌, max, map, length, total, largest_degree}
 use Rattle.ct_ore.specs.Terms.{op_entries}
 use Rattle.ct_ore.specs.Measures.{greatest}
 use Rattle.ct_ore.proofs.degrees.order_of.Given as goal

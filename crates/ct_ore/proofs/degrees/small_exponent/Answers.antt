@@ -1,4 +1,4 @@
-use Rattle.std.proofs.Common.{arith}
+use Rattle.ct_ore.proofs.Base.{arith}
 use Rattle.ct_ore.proofs.PairMeasureLaws.{exp-le-total}
 use Rattle.ct_ore.proofs.degrees.small_exponent.Goals as goal
 

@@ -1,4 +1,4 @@
-use Rattle.std.proofs.Common.{sym}
+use Rattle.ct_ore.proofs.Base.{sym}
 use Rattle.ct_ore.proofs.ProductRules.{none_fits, fits_none}
 use Rattle.ct_ore.proofs.laws.product_fits_where_measures_do.Goals as goal
 

@@ -1,5 +1,4 @@
-use Rattle.std.proofs.Common.{refl}
-use Rattle.ct_algebra.specs.Operators.{no_operator}
+use Rattle.ct_ore.proofs.Base.{refl, no_operator}
 use Rattle.ct_ore.proofs.ProductRules.{zero_left_fits, zero_right_fits}
 use Rattle.ct_ore.proofs.laws.product_with_zero_fits.Goals as goal
 

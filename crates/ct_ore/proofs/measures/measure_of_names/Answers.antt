@@ -1,7 +1,4 @@
-use Rattle.std.proofs.Common.{◌≡◌, ◌*◌, ◌+◌, ℕ, suc, subst, sym, arith}
-use Rattle.ct_algebra.specs.Monomial.{exp}
-use Rattle.ct_algebra.specs.Names.{Name, name_with, place}
-use Rattle.ct_poly.proofs.TermLists.{place-name_with}
+use Rattle.ct_ore.proofs.Base.{◌≡◌, ◌*◌, ◌+◌, ℕ, suc, subst, sym, arith, exp, Name, name_with, place, place-name_with}
 use Rattle.ct_ore.specs.AllNames.{over_below}
 use Rattle.ct_ore.specs.Naming.{actions_of}
 use Rattle.ct_ore.specs.PairMeasures.{name_measure}

@@ -1,5 +1,4 @@
-use Rattle.ct_algebra.specs.Monomial.{exp}
-use Rattle.ct_algebra.specs.Names.{place}
+use Rattle.ct_ore.proofs.Base.{exp, place}
 use Rattle.ct_ore.specs.AllNames.{over_below}
 use Rattle.ct_ore.specs.Naming.{actions_of}
 use Rattle.ct_ore.specs.PairMeasures.{name_measure}

@@ -1,4 +1,4 @@
-use Rattle.std.proofs.Common.{◌*◌, ◌∙◌, ap, subst}
+use Rattle.ct_ore.proofs.Base.{◌*◌, ◌∙◌, ap, subst}
 use Rattle.ct_ore.specs.Naming.{actions_of}
 use Rattle.ct_ore.specs.Terms.{op_entries}
 use Rattle.ct_ore.specs.PairMeasures.{coefficient_measure, symbols_measure}

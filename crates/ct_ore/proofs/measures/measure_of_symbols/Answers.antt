@@ -1,6 +1,4 @@
-use Rattle.std.proofs.Common.{◌≡◌, ◌∙◌, sym, ap, arith}
-use Rattle.std.proofs.lemmas.List.Sums.{sum_by-cons}
-use Rattle.ct_algebra.specs.Monomial.{total}
+use Rattle.ct_ore.proofs.Base.{◌≡◌, ◌∙◌, sym, ap, arith, sum_by-cons, total}
 use Rattle.ct_ore.specs.Naming.{actions_of}
 use Rattle.ct_ore.specs.PairMeasures.{term_measure, symbols_measure}
 use Rattle.ct_ore.proofs.PairMeasureLaws.{summing_more}

@@ -1,11 +1,12 @@
-use Rattle.std.proofs.Common.{◌≡◌, ◌≢◌, ◌*◌, ◌+◌, ◌≤◌, ltb, true, false, sym, ◌∙◌, ap, arith, length, eqb-true, lt-ltb}
-use Rattle.ct_checked.specs.Limits.{largest_degree, most_terms, largest_norm}
+use Rattle.ct_ore.proofs.Base.{◌≡◌, ◌≢◌, ◌*◌, ◌+◌, ◌≤◌, ltb, true, false, sym, ◌∙◌, ap, arith, length, eqb-true, lt-ltb, largest_degree, most_terms}
+use Rattle.ct_ore.proofs.Base.{largest_norm}
 use Rattle.ct_ore.specs.Naming.{actions_of}
 use Rattle.ct_ore.specs.Terms.{op_entries}
 use Rattle.ct_ore.specs.CoefficientTerms.{all_terms}
 use Rattle.ct_ore.specs.Measures.{coefficient_degree, order_of}
 use Rattle.ct_ore.specs.PairMeasures.{measure_of_pairs}
-use Rattle.ct_ore.proofs.PairMeasureLaws.{none_of_zero, by_degree, by_order, by_count, by_norm, length_is, coefficient_degree_is, order_is, count_is, norm_is, pairs_count, nonzero_product, told_nonzero}
+use Rattle.ct_ore.proofs.PairMeasureLaws.{none_of_zero, by_degree, by_order, by_count, by_norm, length_is, coefficient_degree_is, order_is, count_is}
+use Rattle.ct_ore.proofs.PairMeasureLaws.{norm_is, pairs_count, nonzero_product, told_nonzero}
 use Rattle.ct_ore.proofs.measures.product_overflow.Goals as goal
 
 pub returns-then-is_empty : goal.returns-then-is_empty

@@ -1,6 +1,4 @@
-use Rattle.std.proofs.Common.{◌≡◌, ◌*◌, ◌∙◌, sym, ap, subst, arith}
-use Rattle.ct_algebra.specs.Monomial.{exp}
-use Rattle.ct_algebra.specs.Names.{name_with}
+use Rattle.ct_ore.proofs.Base.{◌≡◌, ◌*◌, ◌∙◌, sym, ap, subst, arith, exp, name_with}
 use Rattle.ct_ore.specs.Naming.{actions_of}
 use Rattle.ct_ore.specs.PairMeasures.{name_measure}
 use Rattle.ct_ore.specs.Bounds.{IsCapped}

@@ -1,8 +1,5 @@
-use Rattle.std.proofs.Common.{◌≡◌, ◌++◌, ◌∙◌, refl, sym, subst, subst₂, ap, [], ◌∷◌, option_to_list, rules}
-use Rattle.std.specs.Vec.Iter.{into_iter_items}
-use Rattle.ct_algebra.specs.Monomial.{monomials, mono_turned_back}
-use Rattle.ct_algebra.specs.Polynomial.{polys}
-use Rattle.ct_poly.proofs.Merging.{merging_start, first_taken, second_taken, first_ended, second_ended}
+use Rattle.ct_ore.proofs.Base.{◌≡◌, ◌++◌, ◌∙◌, refl, sym, subst, subst₂, ap, [], ◌∷◌, option_to_list, rules, into_iter_items, monomials}
+use Rattle.ct_ore.proofs.Base.{mono_turned_back, polys, merging_start, first_taken, second_taken, first_ended, second_ended}
 use Rattle.ct_ore.proofs.AddingSteps.{IsMerging, entry, at_hand, room_for_sum, sums_met, nothing_left}
 use Rattle.ct_ore.proofs.merging.merged_terms.Goals as goal
 

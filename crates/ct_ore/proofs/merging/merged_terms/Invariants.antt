@@ -1,5 +1,4 @@
-use Rattle.std.proofs.Common.{◌≡◌, ◌++◌, ◌+◌, length, option_to_list, MatchOption}
-use Rattle.std.specs.Vec.Iter.{into_iter_items, into_iter_len}
+use Rattle.ct_ore.proofs.Base.{◌≡◌, ◌++◌, ◌+◌, length, option_to_list, MatchOption, into_iter_items, into_iter_len}
 use Rattle.ct_ore.proofs.AddingSteps.{IsMerging}
 use Rattle.ct_ore.proofs.merging.merged_terms.Given as goal
 

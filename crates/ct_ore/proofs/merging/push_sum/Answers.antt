@@ -1,8 +1,4 @@
-use Rattle.std.proofs.Common.{◌≡◌, ◌++◌, ◌∷◌, [], ◌∙◌, sym, rules, arith, IsTrue}
-use Rattle.std.proofs.lemmas.Grind.{common_steps}
-use Rattle.ct_algebra.specs.Polynomial.{polys}
-use Rattle.ct_algebra.specs.Monomial.{monomials}
-use Rattle.ct_poly.proofs.Merging.{sum_kept, sum_gone}
+use Rattle.ct_ore.proofs.Base.{◌≡◌, ◌++◌, ◌∷◌, [], ◌∙◌, sym, rules, arith, IsTrue, common_steps, polys, monomials, sum_kept, sum_gone}
 use Rattle.ct_ore.specs.declared.op.OpTerm.{OpTerm}
 use Rattle.ct_ore.proofs.AddingSteps.{entry}
 use Rattle.ct_ore.proofs.merging.push_sum.Goals as goal

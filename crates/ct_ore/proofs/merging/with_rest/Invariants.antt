@@ -1,5 +1,4 @@
-use Rattle.std.proofs.Common.{◌≡◌, ◌++◌, option_to_list}
-use Rattle.std.specs.Vec.Iter.{into_iter_items, into_iter_len}
+use Rattle.ct_ore.proofs.Base.{◌≡◌, ◌++◌, option_to_list, into_iter_items, into_iter_len}
 use Rattle.ct_ore.proofs.merging.with_rest.Given as goal
 
 abbrev pub invariant-moving : goal.invariant-moving

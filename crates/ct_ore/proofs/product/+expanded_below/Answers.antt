@@ -1,4 +1,4 @@
-use Rattle.std.proofs.Common.{◌≡◌, ◌-◌, suc, subst, sym, arith}
+use Rattle.ct_ore.proofs.Base.{◌≡◌, ◌-◌, suc, subst, sym, arith}
 use Rattle.ct_ore.specs.Naming.{actions_of}
 use Rattle.ct_ore.specs.Bounds.{CanExpandBelow}
 use Rattle.ct_ore.proofs.ProductBounds.{can_raise, can_go_on}

@@ -1,4 +1,4 @@
-use Rattle.std.proofs.Common.{length}
+use Rattle.ct_ore.proofs.Base.{length}
 use Rattle.ct_ore.proofs.product.+product_by_halves.Given as goal
 
 abbrev pub decreases-product_by_halves : goal.decreases-product_by_halves

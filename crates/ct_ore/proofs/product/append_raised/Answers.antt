@@ -1,9 +1,5 @@
-use Rattle.std.proofs.Common.{◌≡◌, ◌++◌, ◌∷◌, [], ◌+◌, ◌-◌, ◌*◌, ◌<◌, ◌≤◌, ◌∙◌, sym, ap, ap₂, subst, rules, append_assoc, pos, ◌*ℤ◌, FitsSigned, nat_abs, add-one}
-use Rattle.std.specs.Int.{w128}
-use Rattle.std.proofs.lemmas.Int.{to_z-of_z}
-use Rattle.ct_algebra.specs.Monomial.{exp}
-use Rattle.ct_checked.specs.Limits.{largest_norm}
-use Rattle.ct_mono.specs.Exponents.{with_exponent}
+use Rattle.ct_ore.proofs.Base.{◌≡◌, ◌++◌, ◌∷◌, [], ◌+◌, ◌-◌, ◌*◌, ◌<◌, ◌≤◌, ◌∙◌, sym, ap, ap₂, subst, rules, append_assoc, pos, ◌*ℤ◌, FitsSigned}
+use Rattle.ct_ore.proofs.Base.{nat_abs, add-one, w128, to_z-of_z, exp, largest_norm, with_exponent}
 use Rattle.ct_ore.specs.declared.coefficient_term.CoefficientTerm.{CoefficientTerm}
 use Rattle.ct_ore.specs.Naming.{action_of}
 use Rattle.ct_ore.specs.PairTerms.{listed, lowered_term}

@@ -1,4 +1,4 @@
-use Rattle.std.proofs.Common.{◌≡◌, ◌++◌, ◌<◌}
+use Rattle.ct_ore.proofs.Base.{◌≡◌, ◌++◌, ◌<◌}
 use Rattle.ct_ore.specs.Naming.{action_of}
 use Rattle.ct_ore.specs.PairTerms.{listed, lowered_term}
 use Rattle.ct_ore.specs.Kinds.{how_many, ways}

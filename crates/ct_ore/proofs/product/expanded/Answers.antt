@@ -1,4 +1,4 @@
-use Rattle.std.proofs.Common.{◌∙◌, sym, ap, subst}
+use Rattle.ct_ore.proofs.Base.{◌∙◌, sym, ap, subst}
 use Rattle.ct_ore.specs.AllNames.{number_of_names}
 use Rattle.ct_ore.specs.Naming.{actions_of}
 use Rattle.ct_ore.specs.PairTerms.{expanded_below, expanded}

@@ -1,5 +1,4 @@
-use Rattle.std.proofs.Common.{◌≤◌, ◌∙◌, [], sym, subst, subst₂}
-use Rattle.ct_checked.specs.Limits.{largest_norm}
+use Rattle.ct_ore.proofs.Base.{◌≤◌, ◌∙◌, [], sym, subst, subst₂, largest_norm}
 use Rattle.ct_ore.specs.Naming.{actions_of}
 use Rattle.ct_ore.specs.CoefficientTerms.{IsWritten, size_of}
 use Rattle.ct_ore.specs.PairTerms.{expanded, multiplied_by}

@@ -1,4 +1,4 @@
-use Rattle.std.proofs.Common.{◌≡◌, ◌++◌, length}
+use Rattle.ct_ore.proofs.Base.{◌≡◌, ◌++◌, length}
 use Rattle.ct_ore.specs.Naming.{action_of}
 use Rattle.ct_ore.specs.PairTerms.{raised}
 use Rattle.ct_ore.specs.Bounds.{CanRaise}

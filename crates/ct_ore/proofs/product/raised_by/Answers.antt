@@ -1,6 +1,4 @@
-use Rattle.std.proofs.Common.{◌∙◌, sym}
-use Rattle.ct_algebra.specs.Names.{name_with}
-use Rattle.ct_algebra.specs.Monomial.{exp}
+use Rattle.ct_ore.proofs.Base.{◌∙◌, sym, name_with, exp}
 use Rattle.ct_ore.specs.Naming.{actions_of}
 use Rattle.ct_ore.proofs.Expansion.{raised_none}
 use Rattle.ct_ore.proofs.product.raised_by.Goals as goal

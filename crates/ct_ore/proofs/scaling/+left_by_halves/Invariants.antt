@@ -1,4 +1,4 @@
-use Rattle.std.proofs.Common.{length}
+use Rattle.ct_ore.proofs.Base.{length}
 use Rattle.ct_ore.proofs.scaling.+left_by_halves.Given as goal
 
 abbrev pub decreases-left_by_halves : goal.decreases-left_by_halves

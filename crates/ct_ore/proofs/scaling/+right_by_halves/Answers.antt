@@ -1,5 +1,4 @@
-use Rattle.std.proofs.Common.{◌<◌, ◌∙◌, rules, arith, ap, sym, subst, subst₂, length}
-use Rattle.ct_poly.specs.Terms.{entries}
+use Rattle.ct_ore.proofs.Base.{◌<◌, ◌∙◌, rules, arith, ap, sym, subst, subst₂, length, entries}
 use Rattle.ct_ore.specs.PairTerms.{multiplied_by}
 use Rattle.ct_ore.specs.Bounds.{CanScale}
 use Rattle.ct_ore.specs.Lists.{CanMerge, IsMerged}

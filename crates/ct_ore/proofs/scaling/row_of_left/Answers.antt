@@ -1,4 +1,4 @@
-use Rattle.std.proofs.Common.{◌≡◌, ◌++◌, ◌∷◌, [], ◌∙◌, sym, ap, rules, refl, append_assoc, append-nil}
+use Rattle.ct_ore.proofs.Base.{◌≡◌, ◌++◌, ◌∷◌, [], ◌∙◌, sym, ap, rules, refl, append_assoc, append-nil}
 use Rattle.ct_ore.specs.PairTerms.{multiplied}
 use Rattle.ct_ore.proofs.Multiples.{scale_right, scale_heads}
 use Rattle.ct_ore.proofs.SortedSums.{no_length}

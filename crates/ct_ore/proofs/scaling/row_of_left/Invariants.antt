@@ -1,4 +1,4 @@
-use Rattle.std.proofs.Common.{◌≡◌, ◌∷◌, [], ◌++◌, length}
+use Rattle.ct_ore.proofs.Base.{◌≡◌, ◌∷◌, [], ◌++◌, length}
 use Rattle.ct_ore.specs.PairTerms.{multiplied}
 use Rattle.ct_ore.specs.Bounds.{CanScale}
 use Rattle.ct_ore.proofs.scaling.row_of_left.Given as goal

@@ -1,6 +1,4 @@
-use Rattle.std.proofs.Common.{◌≡◌, ◌++◌, List, ◌∷◌, [], ◌∙◌, sym, ap, rules, refl, append_assoc, append-nil}
-use Rattle.ct_poly.specs.declared.term.Term.{Term}
-use Rattle.ct_poly.specs.Terms.{entries}
+use Rattle.ct_ore.proofs.Base.{◌≡◌, ◌++◌, List, ◌∷◌, [], ◌∙◌, sym, ap, rules, refl, append_assoc, append-nil, Term, entries}
 use Rattle.ct_ore.specs.declared.coefficient_term.CoefficientTerm.{CoefficientTerm}
 use Rattle.ct_ore.specs.PairTerms.{multiplied_by}
 use Rattle.ct_ore.proofs.Multiples.{scale_left, scale_heads}

@@ -1,5 +1,4 @@
-use Rattle.std.proofs.Common.{◌≡◌, ◌∷◌, [], ◌++◌, length}
-use Rattle.ct_poly.specs.Terms.{entries}
+use Rattle.ct_ore.proofs.Base.{◌≡◌, ◌∷◌, [], ◌++◌, length, entries}
 use Rattle.ct_ore.specs.PairTerms.{multiplied_by}
 use Rattle.ct_ore.specs.Bounds.{CanScale}
 use Rattle.ct_ore.proofs.scaling.row_of_right.Given as goal

@@ -1,5 +1,4 @@
-use Rattle.std.proofs.Common.{arith, sym, ap, subst, subst₂, nat_abs}
-use Rattle.std.proofs.lemmas.List.Sums.{sum_by-append}
+use Rattle.ct_ore.proofs.Base.{arith, sym, ap, subst, subst₂, nat_abs, sum_by-append}
 use Rattle.ct_ore.specs.declared.coefficient_term.CoefficientTerm.{CoefficientTerm}
 use Rattle.ct_ore.specs.CoefficientTerms.{size_of}
 use Rattle.ct_ore.specs.PairMeasures.{HasNumbers}

@@ -1,4 +1,4 @@
-use Rattle.std.proofs.Common.{length}
+use Rattle.ct_ore.proofs.Base.{length}
 use Rattle.ct_ore.proofs.sum.+sorted.Given as goal
 
 abbrev pub decreases-sorted : goal.decreases-sorted

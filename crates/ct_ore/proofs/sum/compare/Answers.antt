@@ -1,6 +1,4 @@
-use Rattle.std.proofs.Common.{sym, ◌∙◌, ap}
-use Rattle.std.specs.Ordering.{ordering_then}
-use Rattle.ct_algebra.specs.Monomial.{mono_cmp}
+use Rattle.ct_ore.proofs.Base.{sym, ◌∙◌, ap, ordering_then, mono_cmp}
 use Rattle.ct_algebra.proofs.MonomialLists.{then-not-Equal}
 use Rattle.ct_ore.specs.CoefficientTerms.{key, pair_cmp_is}
 use Rattle.ct_ore.proofs.sum.compare.Goals as goal

@@ -1,4 +1,4 @@
-use Rattle.std.proofs.Common.{◌≡◌, ◌+◌, ◌-◌, ◌/◌, ◌<◌, ℕ, suc, subst, sym, arith, length, take}
+use Rattle.ct_ore.proofs.Base.{◌≡◌, ◌+◌, ◌-◌, ◌/◌, ◌<◌, ℕ, suc, subst, sym, arith, length, take}
 use Rattle.ct_ore.specs.Lists.{AllBefore}
 use Rattle.ct_ore.proofs.MergeSteps.{further_before}
 use Rattle.ct_ore.proofs.sum.count_before.Goals as goal

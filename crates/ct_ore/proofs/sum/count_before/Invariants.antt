@@ -1,4 +1,4 @@
-use Rattle.std.proofs.Common.{◌-◌, ◌≤◌, length}
+use Rattle.ct_ore.proofs.Base.{◌-◌, ◌≤◌, length}
 use Rattle.ct_ore.specs.Lists.{IsBefore}
 use Rattle.ct_ore.proofs.sum.count_before.Given as goal
 

@@ -1,10 +1,6 @@
-use Rattle.std.proofs.Common.{◌≡◌, ◌++◌, ◌∙◌, ◌+◌, ◌≤◌, sym, subst, [], ◌∷◌, take, rules, arith, pos, ◌+ℤ◌, nat_abs, FitsSigned}
-use Rattle.std.specs.Int.{w128}
-use Rattle.std.proofs.lemmas.Int.{to_z-of_z}
-use Rattle.ct_algebra.specs.WholeNumbers.{int_group}
-use Rattle.ct_checked.specs.Limits.{largest_norm}
-use Rattle.ct_poly.proofs.Merging.{merging_start, first_taken, second_taken, has_room, both_met, sum_kept, sum_gone, first_ended, second_ended}
-use Rattle.ct_poly.proofs.TermLists.{abs_sum}
+use Rattle.ct_ore.proofs.Base.{◌≡◌, ◌++◌, ◌∙◌, ◌+◌, ◌≤◌, sym, subst, [], ◌∷◌, take, rules, arith, pos, ◌+ℤ◌, nat_abs, FitsSigned, w128, to_z-of_z}
+use Rattle.ct_ore.proofs.Base.{int_group, largest_norm, merging_start, first_taken, second_taken, has_room, both_met, sum_kept, sum_gone, first_ended}
+use Rattle.ct_ore.proofs.Base.{second_ended, abs_sum}
 use Rattle.ct_ore.specs.declared.coefficient_term.CoefficientTerm.{CoefficientTerm}
 use Rattle.ct_ore.specs.CoefficientTerms.{by_parts, pair_turned_back, key}
 use Rattle.ct_ore.specs.Lists.{AllBefore}

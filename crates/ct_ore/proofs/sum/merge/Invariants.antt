@@ -1,4 +1,4 @@
-use Rattle.std.proofs.Common.{length, ◌+◌}
+use Rattle.ct_ore.proofs.Base.{length, ◌+◌}
 use Rattle.ct_ore.proofs.MergeSteps.{IsMerging}
 use Rattle.ct_ore.proofs.sum.merge.Given as goal
 

@@ -1,4 +1,4 @@
-use Rattle.std.proofs.Common.{subst}
+use Rattle.ct_ore.proofs.Base.{subst}
 use Rattle.ct_ore.specs.PairMeasures.{HasNumbers}
 use Rattle.ct_ore.proofs.SortedSums.{numbers-append}
 use Rattle.ct_ore.proofs.sum.middle.Goals as goal

@@ -1,4 +1,4 @@
-use Rattle.std.proofs.Common.{◌≡◌, take}
+use Rattle.ct_ore.proofs.Base.{◌≡◌, take}
 use Rattle.ct_ore.specs.CoefficientTerms.{size_of}
 use Rattle.ct_ore.proofs.sum.size_of_parts.Given as goal
 

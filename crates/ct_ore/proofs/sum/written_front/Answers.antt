@@ -1,4 +1,4 @@
-use Rattle.std.proofs.Common.{refl, sym}
+use Rattle.ct_ore.proofs.Base.{refl, sym}
 use Rattle.ct_ore.proofs.SortedSums.{walking_step, front_walked}
 use Rattle.ct_ore.proofs.sum.written_front.Goals as goal
 

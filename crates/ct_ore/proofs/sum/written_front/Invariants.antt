@@ -1,4 +1,4 @@
-use Rattle.std.proofs.Common.{length}
+use Rattle.ct_ore.proofs.Base.{length}
 use Rattle.ct_ore.proofs.SortedSums.{IsWalking}
 use Rattle.ct_ore.proofs.sum.written_front.Given as goal
 

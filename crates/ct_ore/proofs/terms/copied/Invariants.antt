@@ -1,4 +1,4 @@
-use Rattle.std.proofs.Common.{◌≡◌, ◌++◌, length}
+use Rattle.ct_ore.proofs.Base.{◌≡◌, ◌++◌, length}
 use Rattle.ct_ore.specs.Terms.{op_entries}
 use Rattle.ct_ore.proofs.terms.copied.Given as goal
 

@@ -1,4 +1,4 @@
-use Rattle.std.proofs.Common.{sym, ◌∙◌}
+use Rattle.ct_ore.proofs.Base.{sym, ◌∙◌}
 use Rattle.ct_mono.specs.Equal.{mono_eq_decides}
 use Rattle.ct_ore.proofs.terms.same_term.Goals as goal
 

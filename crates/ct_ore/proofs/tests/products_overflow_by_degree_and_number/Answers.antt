@@ -1,6 +1,4 @@
-use Rattle.std.proofs.Common.{ap, arith}
-use Rattle.ct_algebra.specs.Monomial.{total}
-use Rattle.ct_mono.proofs.ExponentLaws.{total-unit}
+use Rattle.ct_ore.proofs.Base.{ap, arith, total, total-unit}
 use Rattle.ct_ore.proofs.tests.products_overflow_by_degree_and_number.Goals as goal
 
 pub with_exp-requires-clause-within : goal.with_exp-requires-clause-within

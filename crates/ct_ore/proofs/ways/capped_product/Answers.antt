@@ -1,4 +1,4 @@
-use Rattle.std.proofs.Common.{◌≡◌, ◌*◌, ◌∙◌, sym, ap, arith, eqb-true}
+use Rattle.ct_ore.proofs.Base.{◌≡◌, ◌*◌, ◌∙◌, sym, ap, arith, eqb-true}
 use Rattle.ct_ore.proofs.WayLaws.{told_positive}
 use Rattle.ct_ore.proofs.ways.capped_product.Goals as goal
 

@@ -1,4 +1,4 @@
-use Rattle.std.proofs.Common.{◌≡◌, ◌+◌, min, sym, ◌∙◌, ap, subst, arith}
+use Rattle.ct_ore.proofs.Base.{◌≡◌, ◌+◌, min, sym, ◌∙◌, ap, subst, arith}
 use Rattle.ct_ore.specs.Kinds.{derivation_weight, ways_below}
 use Rattle.ct_ore.specs.Bounds.{IsCapped}
 use Rattle.ct_ore.proofs.PairWeightLaws.{derivation_weight-min}

@@ -1,5 +1,4 @@
-use Rattle.std.proofs.Common.{◌≡◌, ◌≤◌, ◌*◌}
-use Rattle.ct_checked.specs.Limits.{largest_norm}
+use Rattle.ct_ore.proofs.Base.{◌≡◌, ◌≤◌, ◌*◌, largest_norm}
 use Rattle.ct_ore.specs.Bounds.{IsCapped}
 use Rattle.ct_ore.specs.Kinds.{choose, falling_power, ways_below}
 use Rattle.ct_ore.proofs.ways.derivation_weight.Given as goal

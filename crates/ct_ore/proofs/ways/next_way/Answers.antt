@@ -1,8 +1,7 @@
-use Rattle.std.proofs.Common.{rules, ◌≡◌, ◌+◌, ◌-◌, ◌*◌, ◌^◌, suc, ◌∙◌, sym, ap, ap₂, subst, arith}
+use Rattle.ct_ore.proofs.Base.{rules, ◌≡◌, ◌+◌, ◌-◌, ◌*◌, ◌^◌, suc, ◌∙◌, sym, ap, ap₂, subst, arith, Shift, Derive}
 use Rattle.ct_ore.specs.Naming.{action_of}
 use Rattle.ct_ore.specs.Kinds.{choose, falling_power, ways}
 use Rattle.ct_ore.specs.Bounds.{IsCapped}
-use Rattle.ct_algebra.specs.Actions.{Shift, Derive}
 use Rattle.ct_ore.proofs.PairWeightLaws.{ways-next}
 use Rattle.ct_ore.proofs.ways.next_way.Goals as goal
 

@@ -1,4 +1,4 @@
-use Rattle.std.proofs.Common.{◌≡◌, ◌+◌, ◌*◌, ◌^◌, sym, ◌∙◌, ap, subst, rules, arith, lit≤}
+use Rattle.ct_ore.proofs.Base.{◌≡◌, ◌+◌, ◌*◌, ◌^◌, sym, ◌∙◌, ap, subst, rules, arith, lit≤}
 use Rattle.std.proofs.Math.Nat.{pow-suc}
 use Rattle.ct_ore.specs.Bounds.{IsCapped}
 use Rattle.ct_ore.proofs.PairWeightLaws.{power_of_one}

@@ -1,4 +1,4 @@
-use Rattle.std.proofs.Common.{◌+◌, ◌^◌}
+use Rattle.ct_ore.proofs.Base.{◌+◌, ◌^◌}
 use Rattle.ct_ore.specs.Bounds.{IsCapped}
 use Rattle.ct_ore.proofs.ways.shift_weight.Given as goal
 

@@ -1,4 +1,4 @@
-use Rattle.std.proofs.Common.{◌≡◌, ◌+◌, ◌*◌, ◌/◌, ◌%◌, ◌<◌, arith, ap₂, ◌∙◌, sym, subst, subst₂}
+use Rattle.ct_ore.proofs.Base.{◌≡◌, ◌+◌, ◌*◌, ◌/◌, ◌%◌, ◌<◌, arith, ap₂, ◌∙◌, sym, subst, subst₂}
 use Rattle.ct_ore.specs.Bounds.{IsCapped}
 use Rattle.ct_ore.proofs.WayLaws.{exact_quotient}
 use Rattle.ct_ore.proofs.ways.times_over.Goals as goal

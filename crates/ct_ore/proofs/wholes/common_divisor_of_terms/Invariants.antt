@@ -1,4 +1,4 @@
-use Rattle.std.proofs.Common.{length}
+use Rattle.ct_ore.proofs.Base.{length}
 use Rattle.ct_ore.proofs.WholeDivisors.{Gathers}
 use Rattle.ct_ore.proofs.wholes.common_divisor_of_terms.Given as goal
 

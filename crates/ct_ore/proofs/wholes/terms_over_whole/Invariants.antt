@@ -1,4 +1,4 @@
-use Rattle.std.proofs.Common.{◌≡◌, ◌++◌, map, length}
+use Rattle.ct_ore.proofs.Base.{◌≡◌, ◌++◌, map, length}
 use Rattle.ct_ore.specs.Terms.{op_entries}
 use Rattle.ct_ore.specs.Wholes.{DividesTerms, entry_over}
 use Rattle.ct_ore.proofs.wholes.terms_over_whole.Given as goal

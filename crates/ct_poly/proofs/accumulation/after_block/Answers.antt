@@ -1,5 +1,4 @@
-use Rattle.std.proofs.Common.{◌≡◌, ◌∙◌, sym, subst, is_gt, true, rules}
-use Rattle.ct_algebra.specs.Monomial.{mono_turned_back}
+use Rattle.ct_poly.proofs.Base.{◌≡◌, ◌∙◌, sym, subst, is_gt, true, rules, mono_turned_back}
 use Rattle.ct_poly.specs.Accumulation.{BeginsAbove}
 use Rattle.ct_poly.proofs.MergedMultiples.{greater_is}
 use Rattle.ct_poly.proofs.accumulation.after_block.Goals as goal

@@ -1,6 +1,4 @@
-use Rattle.std.proofs.Common.{◌≡◌, ◌∙◌, sym, true, ◌+ℤ◌, is_eq, inl, FitsSigned, rules}
-use Rattle.std.specs.Int.{w128}
-use Rattle.std.proofs.lemmas.Int.{to_z-of_z}
+use Rattle.ct_poly.proofs.Base.{◌≡◌, ◌∙◌, sym, true, ◌+ℤ◌, is_eq, inl, FitsSigned, rules, w128, to_z-of_z}
 use Rattle.ct_poly.proofs.MergedMultiples.{tied_is}
 use Rattle.ct_poly.proofs.accumulation.met.Goals as goal
 

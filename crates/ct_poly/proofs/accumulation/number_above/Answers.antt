@@ -1,4 +1,4 @@
-use Rattle.std.proofs.Common.{arith}
+use Rattle.ct_poly.proofs.Base.{arith}
 use Rattle.ct_poly.proofs.MergedMultiples.{count_within, block_counted}
 use Rattle.ct_poly.proofs.accumulation.number_above.Goals as goal
 

@@ -1,4 +1,4 @@
-use Rattle.std.proofs.Common.{length}
+use Rattle.ct_poly.proofs.Base.{length}
 use Rattle.ct_poly.proofs.MergedMultiples.{IsCounting}
 use Rattle.ct_poly.proofs.accumulation.number_above.Given as goal
 

@@ -1,4 +1,4 @@
-use Rattle.std.proofs.Common.{◌≡◌, ◌+◌, length}
+use Rattle.ct_poly.proofs.Base.{◌≡◌, ◌+◌, length}
 use Rattle.ct_poly.specs.Accumulation.{count_above}
 use Rattle.ct_poly.specs.Terms.{entries}
 use Rattle.ct_poly.proofs.accumulation.number_above_singly.Given as goal

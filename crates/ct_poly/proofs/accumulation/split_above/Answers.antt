@@ -1,4 +1,4 @@
-use Rattle.std.proofs.Common.{◌∙◌, ap, arith}
+use Rattle.ct_poly.proofs.Base.{◌∙◌, ap, arith}
 use Rattle.ct_poly.specs.Accumulation.{count_above}
 use Rattle.ct_poly.specs.Terms.{entries}
 use Rattle.ct_poly.proofs.MergedMultiples.{count_within, counted_split}

@@ -1,9 +1,8 @@
-use Rattle.std.proofs.Common.{◌≡◌, ◌∙◌, ap, sym, subst, ◌+◌, ◌≤◌, ◌++◌, [], ◌∷◌, pos, unsigned_abs, rules}
-use Rattle.ct_algebra.specs.Monomial.{◌·◌}
-use Rattle.ct_checked.specs.Limits.{largest_norm}
+use Rattle.ct_poly.proofs.Base.{◌≡◌, ◌∙◌, ap, sym, subst, ◌+◌, ◌≤◌, ◌++◌, [], ◌∷◌, pos, unsigned_abs, rules, ◌·◌, largest_norm}
 use Rattle.ct_poly.specs.Accumulation.{EachAbove, Meets, count_above}
 use Rattle.ct_poly.specs.Terms.{entries, size_of}
-use Rattle.ct_poly.proofs.MergedMultiples.{IsSplit, times_term, accumulation_start, falling_left, meeting_small, product_pushed, product_gone, accumulation_ended}
+use Rattle.ct_poly.proofs.MergedMultiples.{IsSplit, times_term, accumulation_start, falling_left, meeting_small, product_pushed, product_gone}
+use Rattle.ct_poly.proofs.MergedMultiples.{accumulation_ended}
 use Rattle.ct_poly.proofs.accumulation.sum_with_multiple.Goals as goal
 
 pub merging-init : goal.merging-init

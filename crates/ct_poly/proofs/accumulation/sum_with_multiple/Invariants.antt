@@ -1,4 +1,4 @@
-use Rattle.std.proofs.Common.{length}
+use Rattle.ct_poly.proofs.Base.{length}
 use Rattle.ct_poly.proofs.MergedMultiples.{IsAccumulating}
 use Rattle.ct_poly.proofs.accumulation.sum_with_multiple.Given as goal
 

@@ -1,4 +1,4 @@
-use Rattle.std.proofs.Common.{◌*◌, ◌∙◌, ap₂, arith}
+use Rattle.ct_poly.proofs.Base.{◌*◌, ◌∙◌, ap₂, arith}
 use Rattle.ct_poly.proofs.CellNumbers.{cell_fits, cell_more, all_digits}
 use Rattle.ct_poly.proofs.boxes.cell_of.Goals as goal
 

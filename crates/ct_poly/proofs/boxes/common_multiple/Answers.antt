@@ -1,4 +1,4 @@
-use Rattle.std.proofs.Common.{arith}
+use Rattle.ct_poly.proofs.Base.{arith}
 use Rattle.ct_poly.proofs.BoundingBoxes.{raising_start, raising_more, raising_all}
 use Rattle.ct_poly.proofs.boxes.common_multiple.Goals as goal
 

@@ -1,4 +1,4 @@
-use Rattle.std.proofs.Common.{length}
+use Rattle.ct_poly.proofs.Base.{length}
 use Rattle.ct_poly.proofs.BoundingBoxes.{IsBounding}
 use Rattle.ct_poly.proofs.boxes.greatest_exponents.Given as goal
 

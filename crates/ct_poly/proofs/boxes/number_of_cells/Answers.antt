@@ -1,4 +1,4 @@
-use Rattle.std.proofs.Common.{◌∙◌, arith}
+use Rattle.ct_poly.proofs.Base.{◌∙◌, arith}
 use Rattle.ct_poly.proofs.CellNumbers.{all_cells}
 use Rattle.ct_poly.proofs.boxes.number_of_cells.Goals as goal
 

@@ -1,4 +1,4 @@
-use Rattle.std.proofs.Common.{◌≡◌, ◌≤◌}
+use Rattle.ct_poly.proofs.Base.{◌≡◌, ◌≤◌}
 use Rattle.ct_poly.specs.Cells.{cells_below}
 use Rattle.ct_poly.proofs.boxes.number_of_cells.Given as goal
 

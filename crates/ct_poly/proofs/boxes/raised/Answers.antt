@@ -1,7 +1,4 @@
-use Rattle.std.proofs.Common.{sym, ap, subst, arith}
-use Rattle.ct_algebra.specs.Monomial.{exp}
-use Rattle.ct_mono.specs.Division.{Divides}
-use Rattle.ct_mono.proofs.ExponentLaws.{exp-with_exponent_same}
+use Rattle.ct_poly.proofs.Base.{sym, ap, subst, arith, exp, Divides, exp-with_exponent_same}
 use Rattle.ct_poly.proofs.BoundingBoxes.{divides_self, divides_greater}
 use Rattle.ct_poly.proofs.boxes.raised.Goals as goal
 

@@ -1,4 +1,4 @@
-use Rattle.std.proofs.Common.{◌≤◌}
+use Rattle.ct_poly.proofs.Base.{◌≤◌}
 use Rattle.ct_poly.proofs.cell_division.highest_cell.Given as goal
 
 abbrev pub invariant-searching : goal.invariant-searching

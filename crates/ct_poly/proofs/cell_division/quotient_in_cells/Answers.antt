@@ -1,9 +1,6 @@
-use Rattle.std.proofs.Common.{sym, subst}
-use Rattle.std.specs.Prelude.{IfSome}
-use Rattle.std.proofs.lemmas.Result.{IfOk-weaker}
+use Rattle.ct_poly.proofs.Base.{sym, subst, IfSome, IfOk-weaker, IfSome_then}
 use Rattle.ct_poly.specs.Cells.{IsTable, IsTableOf, IsQuotient}
 use Rattle.ct_poly.specs.Terms.{poly_of_terms}
-use Rattle.std.proofs.lemmas.Option.{IfSome_then}
 use Rattle.ct_poly.proofs.cell_division.quotient_in_cells.Goals as goal
 
 pub returns : goal.returns

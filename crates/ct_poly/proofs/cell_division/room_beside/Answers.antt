@@ -1,7 +1,4 @@
-use Rattle.std.proofs.Common.{◌≡◌, Option, Some, None}
-use Rattle.std.specs.Prelude.{IfSome, MatchOption}
-use Rattle.ct_algebra.specs.Monomial.{Mono, ◌·◌}
-use Rattle.ct_mono.specs.Division.{Divides}
+use Rattle.ct_poly.proofs.Base.{◌≡◌, Option, Some, None, IfSome, MatchOption, Mono, ◌·◌, Divides}
 use Rattle.ct_poly.specs.Cells.{AreInBox, AreMultiplesInBox}
 use Rattle.ct_poly.proofs.BoundingBoxes.{beside_is}
 use Rattle.ct_poly.proofs.cell_division.room_beside.Goals as goal

@@ -1,4 +1,4 @@
-use Rattle.std.proofs.Common.{length}
+use Rattle.ct_poly.proofs.Base.{length}
 use Rattle.ct_poly.proofs.CellSteps.{IsPlacing}
 use Rattle.ct_poly.proofs.cell_division.spots_of_terms.Given as goal
 

@@ -1,4 +1,4 @@
-use Rattle.std.proofs.Common.{◌≡◌, ◌∙◌, ◌++◌, take, drop, length, sym, ap, subst, arith}
+use Rattle.ct_poly.proofs.Base.{◌≡◌, ◌∙◌, ◌++◌, take, drop, length, sym, ap, subst, arith}
 use Rattle.std.proofs.Math.Seq.{take-append_seam}
 use Rattle.ct_poly.specs.Cells.{IsTableOf}
 use Rattle.ct_poly.proofs.CellSteps.{zeros_are, start_inside, table_start}

@@ -1,6 +1,5 @@
-use Rattle.std.proofs.Common.{◌≡◌, refl, ◌+◌, ◌*◌, ◌<◌, ◌≤◌, neg_ℤ, nat_abs, sym, ap, subst, subst₂, All, length, FitsSigned, rules}
-use Rattle.std.specs.Int.{w128}
-use Rattle.std.proofs.lemmas.Int.{to_z-of_z}
+use Rattle.ct_poly.proofs.Base.{◌≡◌, refl, ◌+◌, ◌*◌, ◌<◌, ◌≤◌, neg_ℤ, nat_abs, sym, ap, subst, subst₂, All, length, FitsSigned, rules, w128}
+use Rattle.ct_poly.proofs.Base.{to_z-of_z}
 use Rattle.ct_poly.proofs.CellSteps.{taking_start, step_inside, taking_more, measures_have_room, nothing_left}
 use Rattle.ct_poly.specs.Cells.{added, size_of_cells, size_of_spots}
 use Rattle.ct_poly.proofs.cell_division.taken_out.Goals as goal

@@ -1,4 +1,4 @@
-use Rattle.std.proofs.Common.{arith}
+use Rattle.ct_poly.proofs.Base.{arith}
 use Rattle.ct_poly.proofs.CellProducts.{factors_small}
 use Rattle.ct_poly.proofs.cell_product.measure_of_pairs.Goals as goal
 

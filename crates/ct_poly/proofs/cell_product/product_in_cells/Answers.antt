@@ -1,4 +1,4 @@
-use Rattle.std.proofs.Common.{◌∙◌, ap, pos, [], ◌∷◌, length}
+use Rattle.ct_poly.proofs.Base.{◌∙◌, ap, pos, [], ◌∷◌, length}
 use Rattle.ct_poly.specs.Terms.{IsListOf, poly_of_terms, size_of}
 use Rattle.ct_poly.proofs.CellSteps.{some_is}
 use Rattle.ct_poly.proofs.CellProducts.{product_is}

@@ -1,7 +1,5 @@
-use Rattle.std.proofs.Common.{rules, ◌≡◌, ◌+◌, ◌+ℤ◌, ◌*ℤ◌, ◌≤◌, nat_abs, pos, slice_index_or, slice_set, FitsSigned, to_z, of_z, subst, sym, ap, ◌∙◌}
-use Rattle.std.specs.Int.{w128}
-use Rattle.std.proofs.lemmas.Int.{to_z-of_z}
-use Rattle.ct_checked.specs.Limits.{largest_norm}
+use Rattle.ct_poly.proofs.Base.{rules, ◌≡◌, ◌+◌, ◌+ℤ◌, ◌*ℤ◌, ◌≤◌, nat_abs, pos, slice_index_or, slice_set, FitsSigned, to_z, of_z, subst, sym, ap}
+use Rattle.ct_poly.proofs.Base.{◌∙◌, w128, to_z-of_z, largest_norm}
 use Rattle.ct_poly.proofs.AddedSpots.{IsAdding, sum_fits, one_added}
 use Rattle.ct_poly.proofs.cells.add_multiple.Goals as goal
 

@@ -1,4 +1,4 @@
-use Rattle.std.proofs.Common.{length}
+use Rattle.ct_poly.proofs.Base.{length}
 use Rattle.ct_poly.proofs.AddedSpots.{IsAdding}
 use Rattle.ct_poly.proofs.cells.add_multiple.Given as goal
 

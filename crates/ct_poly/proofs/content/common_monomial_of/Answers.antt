@@ -1,4 +1,4 @@
-use Rattle.std.proofs.Common.{◌∙◌, refl, arith, ap₂, min}
+use Rattle.ct_poly.proofs.Base.{◌∙◌, refl, arith, ap₂, min}
 use Rattle.ct_poly.proofs.CommonMonomials.{meeting_more}
 use Rattle.ct_poly.proofs.content.common_monomial_of.Goals as goal
 

@@ -1,4 +1,4 @@
-use Rattle.std.proofs.Common.{length}
+use Rattle.ct_poly.proofs.Base.{length}
 use Rattle.ct_poly.proofs.CommonMonomials.{IsLowering}
 use Rattle.ct_poly.proofs.content.common_monomial_of_terms.Given as goal
 

@@ -1,6 +1,4 @@
-use Rattle.std.proofs.Common.{◌≡◌, unsigned_abs, FitsSigned, rules}
-use Rattle.std.specs.Int.{w128}
-use Rattle.std.proofs.lemmas.Int.{to_z-of_z}
+use Rattle.ct_poly.proofs.Base.{◌≡◌, unsigned_abs, FitsSigned, rules, w128, to_z-of_z}
 use Rattle.ct_poly.proofs.Contents.{gathering_start, gathered, gathered_all, gathered_to_one}
 use Rattle.ct_poly.proofs.content.content_of_terms.Goals as goal
 

@@ -1,4 +1,4 @@
-use Rattle.std.proofs.Common.{length}
+use Rattle.ct_poly.proofs.Base.{length}
 use Rattle.ct_poly.proofs.Contents.{IsGathering}
 use Rattle.ct_poly.proofs.content.content_of_terms.Given as goal
 

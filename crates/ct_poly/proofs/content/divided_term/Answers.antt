@@ -1,8 +1,4 @@
-use Rattle.std.proofs.Common.{◌≡◌, ◌∙◌, ap₂, subst, FitsSigned, int_div, rules, Some, MatchOption}
-use Rattle.std.specs.Int.{w128}
-use Rattle.std.proofs.lemmas.Int.{to_z-of_z}
-use Rattle.ct_algebra.specs.Monomial.{◌·◌}
-use Rattle.ct_mono.specs.Division.{Divides}
+use Rattle.ct_poly.proofs.Base.{◌≡◌, ◌∙◌, ap₂, subst, FitsSigned, int_div, rules, Some, MatchOption, w128, to_z-of_z, ◌·◌, Divides}
 use Rattle.ct_poly.proofs.CommonMonomials.{without_is}
 use Rattle.ct_poly.proofs.content.divided_term.Goals as goal
 

@@ -1,4 +1,4 @@
-use Rattle.std.proofs.Common.{length}
+use Rattle.ct_poly.proofs.Base.{length}
 use Rattle.ct_poly.proofs.DividedTerms.{IsDividing}
 use Rattle.ct_poly.proofs.content.divided_terms.Given as goal
 

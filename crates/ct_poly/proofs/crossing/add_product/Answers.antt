@@ -1,6 +1,4 @@
-use Rattle.std.proofs.Common.{◌≡◌, length, FitsSigned, to_z, of_z, rules}
-use Rattle.std.specs.Int.{w128}
-use Rattle.std.proofs.lemmas.Int.{to_z-of_z}
+use Rattle.ct_poly.proofs.Base.{◌≡◌, length, FitsSigned, to_z, of_z, rules, w128, to_z-of_z}
 use Rattle.ct_poly.proofs.CrossCells.{multiplying_start, multiplying_more, multiple_inside, multiplied}
 use Rattle.ct_poly.proofs.crossing.add_product.Goals as goal
 

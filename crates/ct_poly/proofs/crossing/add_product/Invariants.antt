@@ -1,4 +1,4 @@
-use Rattle.std.proofs.Common.{length}
+use Rattle.ct_poly.proofs.Base.{length}
 use Rattle.ct_poly.proofs.CrossCells.{IsMultiplying}
 use Rattle.ct_poly.proofs.crossing.add_product.Given as goal
 

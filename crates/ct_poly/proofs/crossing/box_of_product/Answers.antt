@@ -1,8 +1,4 @@
-use Rattle.std.proofs.Common.{◌≡◌, ◌+◌, ◌<◌, Option, Some, None}
-use Rattle.std.specs.Prelude.{IfSome, MatchOption}
-use Rattle.ct_algebra.specs.Monomial.{Mono, ◌·◌, total}
-use Rattle.ct_mono.specs.Division.{Divides}
-use Rattle.ct_checked.specs.Limits.{largest_degree}
+use Rattle.ct_poly.proofs.Base.{◌≡◌, ◌+◌, ◌<◌, Option, Some, None, IfSome, MatchOption, Mono, ◌·◌, total, Divides, largest_degree}
 use Rattle.ct_poly.specs.Cells.{AreInBox, AreProductsInBox}
 use Rattle.ct_poly.proofs.CrossCells.{products_inside}
 use Rattle.ct_poly.proofs.crossing.box_of_product.Goals as goal

@@ -1,4 +1,4 @@
-use Rattle.std.proofs.lemmas.Option.{IfSome_then}
+use Rattle.ct_poly.proofs.Base.{IfSome_then}
 use Rattle.ct_poly.proofs.crossing.box_of_products.Goals as goal
 
 pub returns-clause-first : goal.returns-clause-first

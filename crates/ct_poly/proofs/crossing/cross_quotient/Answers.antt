@@ -1,5 +1,4 @@
-use Rattle.std.proofs.Common.{sym, subst, length}
-use Rattle.ct_algebra.specs.Polynomial.{polys}
+use Rattle.ct_poly.proofs.Base.{sym, subst, length, polys}
 use Rattle.ct_poly.specs.Crossing.{IsCrossQuotient}
 use Rattle.ct_poly.specs.Terms.{IsListOf, poly_of_terms, size_of}
 use Rattle.ct_poly.proofs.CellSteps.{some_is}

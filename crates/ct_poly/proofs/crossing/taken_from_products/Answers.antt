@@ -1,6 +1,4 @@
-use Rattle.std.proofs.Common.{arith}
-use Rattle.std.proofs.lemmas.Result.{IfOk-weaker}
-use Rattle.std.proofs.lemmas.Option.{IfSome_then}
+use Rattle.ct_poly.proofs.Base.{arith, IfOk-weaker, IfSome_then}
 use Rattle.ct_poly.proofs.CrossCells.{zeros_small, crossed_table}
 use Rattle.ct_poly.proofs.crossing.taken_from_products.Goals as goal
 

@@ -1,8 +1,4 @@
-use Rattle.std.proofs.Common.{◌≡◌, ◌≤◌, ◌++◌, ◌∙◌, ap, sym, [], ◌∷◌, rules, arith, ◌*ℤ◌, FitsSigned}
-use Rattle.std.specs.Int.{w128}
-use Rattle.std.proofs.lemmas.Int.{to_z-of_z}
-use Rattle.ct_algebra.specs.Monomial.{total}
-use Rattle.ct_checked.specs.Limits.{largest_degree}
+use Rattle.ct_poly.proofs.Base.{◌≡◌, ◌≤◌, ◌++◌, ◌∙◌, ap, sym, [], ◌∷◌, rules, arith, ◌*ℤ◌, FitsSigned, w128, to_z-of_z, total, largest_degree}
 use Rattle.ct_poly.specs.declared.term.Term.{Term}
 use Rattle.ct_poly.proofs.Termwise.{making_ended, making_more, head_low}
 use Rattle.ct_poly.proofs.Derivatives.{derivative, derivative_is, derivative_of_name}

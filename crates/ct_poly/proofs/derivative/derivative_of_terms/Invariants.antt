@@ -1,4 +1,4 @@
-use Rattle.std.proofs.Common.{length}
+use Rattle.ct_poly.proofs.Base.{length}
 use Rattle.ct_poly.proofs.Termwise.{IsMaking}
 use Rattle.ct_poly.proofs.Derivatives.{derivative}
 use Rattle.ct_poly.proofs.derivative.derivative_of_terms.Given as goal

@@ -1,4 +1,4 @@
-use Rattle.std.proofs.Common.{◌≡◌, ◌-◌, ◌^◌, min, take}
+use Rattle.ct_poly.proofs.Base.{◌≡◌, ◌-◌, ◌^◌, min, take}
 use Rattle.ct_poly.specs.Terms.{derivative_size}
 use Rattle.ct_poly.proofs.derivative.derivative_size_of_terms.Given as goal
 

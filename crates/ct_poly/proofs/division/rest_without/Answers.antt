@@ -1,7 +1,4 @@
-use Rattle.std.proofs.Common.{◌≡◌, neg_ℤ, arith, FitsSigned, rules, ◌∙◌}
-use Rattle.std.specs.Int.{w128}
-use Rattle.std.proofs.lemmas.Int.{to_z-of_z}
-use Rattle.std.proofs.lemmas.Result.{IfOk-weaker}
+use Rattle.ct_poly.proofs.Base.{◌≡◌, neg_ℤ, arith, FitsSigned, rules, ◌∙◌, w128, to_z-of_z, IfOk-weaker}
 use Rattle.ct_poly.proofs.DivisionLists.{can_step, merge_small, rest_is_listed}
 use Rattle.ct_poly.proofs.division.rest_without.Goals as goal
 

@@ -1,6 +1,4 @@
-use Rattle.std.proofs.Common.{◌≡◌, ◌*ℤ◌, ◌∙◌, ap, sym, arith, FitsSigned, int_div, rules, Some}
-use Rattle.std.specs.Int.{w128}
-use Rattle.std.proofs.lemmas.Int.{to_z-of_z}
+use Rattle.ct_poly.proofs.Base.{◌≡◌, ◌*ℤ◌, ◌∙◌, ap, sym, arith, FitsSigned, int_div, rules, Some, w128, to_z-of_z}
 use Rattle.ct_poly.proofs.WholeQuotients.{int_div_small, whole_quotient, no_whole_quotient}
 use Rattle.ct_poly.proofs.division.whole_over.Goals as goal
 

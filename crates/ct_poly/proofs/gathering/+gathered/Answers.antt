@@ -1,6 +1,4 @@
-use Rattle.std.proofs.Common.{◌+◌, length, subst₂}
-use Rattle.std.proofs.lemmas.Result.{IfOk-weaker}
-use Rattle.ct_algebra.specs.Polynomial.{plus}
+use Rattle.ct_poly.proofs.Base.{◌+◌, length, subst₂, IfOk-weaker, plus}
 use Rattle.ct_poly.specs.Terms.{IsListOf, poly_of_terms, size_of}
 use Rattle.ct_poly.proofs.GatheredTerms.{gathered_none, gathered_halves}
 use Rattle.ct_poly.proofs.gathering.+gathered.Goals as goal

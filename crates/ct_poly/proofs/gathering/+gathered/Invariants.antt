@@ -1,4 +1,4 @@
-use Rattle.std.proofs.Common.{length}
+use Rattle.ct_poly.proofs.Base.{length}
 use Rattle.ct_poly.proofs.gathering.+gathered.Given as goal
 
 abbrev pub decreases-gathered : goal.decreases-gathered

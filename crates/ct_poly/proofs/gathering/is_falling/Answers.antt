@@ -1,4 +1,4 @@
-use Rattle.std.proofs.Common.{◌≡◌, ◌≢◌, ◌∙◌, sym, pos, is_gt, true, rules}
+use Rattle.ct_poly.proofs.Base.{◌≡◌, ◌≢◌, ◌∙◌, sym, pos, is_gt, true, rules}
 use Rattle.ct_poly.proofs.GatheredTerms.{comparing_more}
 use Rattle.ct_poly.proofs.MergedMultiples.{greater_is}
 use Rattle.ct_poly.proofs.gathering.is_falling.Goals as goal

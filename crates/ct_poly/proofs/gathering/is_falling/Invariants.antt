@@ -1,4 +1,4 @@
-use Rattle.std.proofs.Common.{length}
+use Rattle.ct_poly.proofs.Base.{length}
 use Rattle.ct_poly.proofs.GatheredTerms.{IsComparing}
 use Rattle.ct_poly.proofs.gathering.is_falling.Given as goal
 

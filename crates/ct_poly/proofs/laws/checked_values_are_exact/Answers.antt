@@ -1,4 +1,4 @@
-use Rattle.ct_checked.specs.Checked.{verdict_ok}
+use Rattle.ct_poly.proofs.Base.{verdict_ok}
 use Rattle.ct_poly.specs.Measures.{checked_plus, checked_minus, checked_times, checked_shifted, checked_derived}
 use Rattle.ct_poly.proofs.laws.checked_values_are_exact.Goals as goal
 

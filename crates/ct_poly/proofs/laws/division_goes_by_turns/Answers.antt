@@ -1,4 +1,4 @@
-use Rattle.ct_checked.specs.Loop.{run_is}
+use Rattle.ct_poly.proofs.Base.{run_is}
 use Rattle.ct_poly.specs.Division.{dividing_rank, next_term, checked_step}
 use Rattle.ct_poly.proofs.DivisionSteps.{division_falls}
 use Rattle.ct_poly.proofs.laws.division_goes_by_turns.Goals as goal

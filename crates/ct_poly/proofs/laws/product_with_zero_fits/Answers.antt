@@ -1,5 +1,4 @@
-use Rattle.std.proofs.Common.{refl, inl, inr}
-use Rattle.ct_algebra.specs.Polynomial.{polys}
+use Rattle.ct_poly.proofs.Base.{refl, inl, inr, polys}
 use Rattle.ct_poly.proofs.OverflowRules.{product_with_zero}
 use Rattle.ct_poly.proofs.Values.{no_pairs}
 use Rattle.ct_poly.proofs.laws.product_with_zero_fits.Goals as goal

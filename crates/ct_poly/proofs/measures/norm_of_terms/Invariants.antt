@@ -1,4 +1,4 @@
-use Rattle.std.proofs.Common.{◌≡◌, take}
+use Rattle.ct_poly.proofs.Base.{◌≡◌, take}
 use Rattle.ct_poly.specs.Terms.{size_of}
 use Rattle.ct_poly.proofs.measures.norm_of_terms.Given as goal
 

@@ -1,4 +1,4 @@
-use Rattle.std.proofs.Common.{◌≡◌, rules}
+use Rattle.ct_poly.proofs.Base.{◌≡◌, rules}
 use Rattle.ct_poly.proofs.TermLists.{same_entry}
 use Rattle.ct_poly.proofs.measures.same_term.Goals as goal
 

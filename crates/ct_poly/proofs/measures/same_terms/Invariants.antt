@@ -1,4 +1,4 @@
-use Rattle.std.proofs.Common.{◌≡◌, ◌↔◌, length}
+use Rattle.ct_poly.proofs.Base.{◌≡◌, ◌↔◌, length}
 use Rattle.ct_poly.specs.Terms.{entries}
 use Rattle.ct_poly.proofs.measures.same_terms.Given as goal
 

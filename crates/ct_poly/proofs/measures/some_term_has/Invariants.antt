@@ -1,6 +1,4 @@
-use Rattle.std.proofs.Common.{◌≡◌, ◌↔◌, length}
-use Rattle.ct_algebra.specs.Monomial.{exp}
-use Rattle.ct_algebra.specs.Terms.{EachTerm}
+use Rattle.ct_poly.proofs.Base.{◌≡◌, ◌↔◌, length, exp, EachTerm}
 use Rattle.ct_poly.specs.Terms.{entries}
 use Rattle.ct_poly.proofs.measures.some_term_has.Given as goal
 

@@ -1,5 +1,4 @@
-use Rattle.std.proofs.Common.{◌≡◌, length}
-use Rattle.std.specs.Cmp.Lexicographic.{slice_cmp}
+use Rattle.ct_poly.proofs.Base.{◌≡◌, length, slice_cmp}
 use Rattle.ct_poly.specs.Order.{term_cmp}
 use Rattle.ct_poly.specs.Terms.{entries}
 use Rattle.ct_poly.proofs.order.cmp_of_terms.Given as goal

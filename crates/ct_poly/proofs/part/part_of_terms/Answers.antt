@@ -1,4 +1,4 @@
-use Rattle.std.proofs.Common.{◌≡◌, refl, [], ◌∷◌, ◌++◌, rules}
+use Rattle.ct_poly.proofs.Base.{◌≡◌, refl, [], ◌∷◌, ◌++◌, rules}
 use Rattle.ct_poly.proofs.Parts.{chosen, left_out, choosing_ended}
 use Rattle.ct_poly.proofs.part.part_of_terms.Goals as goal
 

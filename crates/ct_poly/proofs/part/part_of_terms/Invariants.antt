@@ -1,5 +1,4 @@
-use Rattle.std.proofs.Common.{length, map}
-use Rattle.ct_algebra.specs.Names.{name_with}
+use Rattle.ct_poly.proofs.Base.{length, map, name_with}
 use Rattle.ct_poly.proofs.Parts.{IsChoosing}
 use Rattle.ct_poly.proofs.part.part_of_terms.Given as goal
 

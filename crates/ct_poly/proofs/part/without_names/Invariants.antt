@@ -1,4 +1,4 @@
-use Rattle.std.proofs.Common.{length}
+use Rattle.ct_poly.proofs.Base.{length}
 use Rattle.ct_poly.proofs.Parts.{IsClearing}
 use Rattle.ct_poly.proofs.part.without_names.Given as goal
 

@@ -1,6 +1,4 @@
-use Rattle.std.proofs.Common.{◌≡◌, ◌+◌, ◌<◌, [], ◌∷◌, rules, arith, length, subst, subst₂}
-use Rattle.std.proofs.lemmas.Result.{IfOk-weaker}
-use Rattle.ct_algebra.specs.Polynomial.{plus}
+use Rattle.ct_poly.proofs.Base.{◌≡◌, ◌+◌, ◌<◌, [], ◌∷◌, rules, arith, length, subst, subst₂, IfOk-weaker, plus}
 use Rattle.ct_poly.specs.Terms.{size_of, poly_of_terms, IsListOf, CanMultiply}
 use Rattle.ct_poly.proofs.Products.{product_of_none, product_of_one, product_of_halves, can_front, can_back, only_one, halves_small}
 use Rattle.ct_poly.proofs.product.+product_by_halves.Goals as goal

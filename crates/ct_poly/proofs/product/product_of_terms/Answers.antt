@@ -1,4 +1,4 @@
-use Rattle.std.proofs.lemmas.Result.{IfOk-weaker}
+use Rattle.ct_poly.proofs.Base.{IfOk-weaker}
 use Rattle.ct_poly.proofs.Products.{product_turned}
 use Rattle.ct_poly.proofs.product.product_of_terms.Goals as goal
 

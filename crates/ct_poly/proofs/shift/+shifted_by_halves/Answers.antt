@@ -1,6 +1,4 @@
-use Rattle.std.proofs.Common.{◌≡◌, ◌+◌, ◌<◌, [], ◌∷◌, rules, arith, sym, length, subst, subst₂}
-use Rattle.std.proofs.lemmas.Result.{IfOk-weaker}
-use Rattle.ct_algebra.specs.Polynomial.{plus}
+use Rattle.ct_poly.proofs.Base.{◌≡◌, ◌+◌, ◌<◌, [], ◌∷◌, rules, arith, sym, length, subst, subst₂, IfOk-weaker, plus}
 use Rattle.ct_poly.specs.Powers.{CanShift}
 use Rattle.ct_poly.specs.Terms.{size_of, poly_of_terms, IsListOf}
 use Rattle.ct_poly.proofs.Products.{only_one}

@@ -1,4 +1,4 @@
-use Rattle.std.proofs.Common.{◌≡◌, [], ◌∷◌, rules, pos}
+use Rattle.ct_poly.proofs.Base.{◌≡◌, [], ◌∷◌, rules, pos}
 use Rattle.ct_poly.specs.declared.term.Term.{Term}
 use Rattle.ct_poly.proofs.PowerTables.{binomial_listed, binomial_low}
 use Rattle.ct_poly.proofs.shift.binomial_terms.Goals as goal

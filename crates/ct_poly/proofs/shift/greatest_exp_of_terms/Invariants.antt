@@ -1,4 +1,4 @@
-use Rattle.std.proofs.Common.{◌≡◌, max, length}
+use Rattle.ct_poly.proofs.Base.{◌≡◌, max, length}
 use Rattle.ct_poly.specs.Terms.{greatest_exp}
 use Rattle.ct_poly.proofs.shift.greatest_exp_of_terms.Given as goal
 

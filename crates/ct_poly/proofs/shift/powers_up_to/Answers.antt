@@ -1,4 +1,4 @@
-use Rattle.std.proofs.Common.{◌≡◌, suc, ◌++◌, ◌+◌, ◌≤◌, ◌∙◌, [], ◌∷◌, rules, arith, sym, ap, subst, pos}
+use Rattle.ct_poly.proofs.Base.{◌≡◌, suc, ◌++◌, ◌+◌, ◌≤◌, ◌∙◌, [], ◌∷◌, rules, arith, sym, ap, subst, pos}
 use Rattle.ct_poly.specs.declared.term.Term.{Term}
 use Rattle.ct_poly.specs.Powers.{IsPower, binomial}
 use Rattle.ct_poly.specs.Terms.{IsListOf, greatest_total}

@@ -1,4 +1,4 @@
-use Rattle.std.proofs.Common.{◌+◌}
+use Rattle.ct_poly.proofs.Base.{◌+◌}
 use Rattle.ct_poly.proofs.PowerTables.{AreRows}
 use Rattle.ct_poly.proofs.shift.powers_up_to.Given as goal
 

@@ -1,4 +1,4 @@
-use Rattle.std.proofs.Common.{◌≡◌, ◌≤◌, ◌*◌, take}
+use Rattle.ct_poly.proofs.Base.{◌≡◌, ◌≤◌, ◌*◌, take}
 use Rattle.ct_poly.specs.Terms.{shift_length}
 use Rattle.ct_poly.proofs.shift.shift_length_of_terms.Given as goal
 

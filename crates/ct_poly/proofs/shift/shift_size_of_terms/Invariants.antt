@@ -1,4 +1,4 @@
-use Rattle.std.proofs.Common.{◌≡◌, ◌-◌, ◌^◌, min, take}
+use Rattle.ct_poly.proofs.Base.{◌≡◌, ◌-◌, ◌^◌, min, take}
 use Rattle.ct_poly.specs.Terms.{shift_size}
 use Rattle.ct_poly.proofs.shift.shift_size_of_terms.Given as goal
 

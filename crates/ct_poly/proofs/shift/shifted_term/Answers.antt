@@ -1,11 +1,5 @@
-use Rattle.std.proofs.Common.{◌≡◌, ◌<◌, ◌*◌, ◌∙◌, nat_abs, to_z, of_z, ap, sym, subst, [], ◌∷◌, rules, arith, FitsSigned, length}
-use Rattle.std.specs.Prelude.{slice_index_or}
-use Rattle.std.specs.Int.{w128}
-use Rattle.std.proofs.lemmas.Int.{to_z-of_z}
-use Rattle.std.proofs.lemmas.Result.{IfOk-weaker}
-use Rattle.ct_algebra.specs.Monomial.{exp}
-use Rattle.ct_algebra.specs.Polynomial.{times}
-use Rattle.ct_mono.specs.Exponents.{with_exponent}
+use Rattle.ct_poly.proofs.Base.{◌≡◌, ◌<◌, ◌*◌, ◌∙◌, nat_abs, to_z, of_z, ap, sym, subst, [], ◌∷◌, rules, arith, FitsSigned, length, slice_index_or}
+use Rattle.ct_poly.proofs.Base.{w128, to_z-of_z, IfOk-weaker, exp, times, with_exponent}
 use Rattle.ct_poly.specs.declared.term.Term.{Term}
 use Rattle.ct_poly.specs.Powers.{IsPower}
 use Rattle.ct_poly.specs.Terms.{CanMultiply, IsListOf, poly_of_terms, size_of}

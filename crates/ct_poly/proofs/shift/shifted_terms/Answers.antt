@@ -1,4 +1,4 @@
-use Rattle.std.proofs.Common.{◌+◌, ◌^◌, ap, arith}
+use Rattle.ct_poly.proofs.Base.{◌+◌, ◌^◌, ap, arith}
 use Rattle.ct_poly.proofs.PowerTables.{greatest_small, greatest_low}
 use Rattle.ct_poly.proofs.shift.shifted_terms.Goals as goal
 

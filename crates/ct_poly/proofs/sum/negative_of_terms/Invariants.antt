@@ -1,4 +1,4 @@
-use Rattle.std.proofs.Common.{length}
+use Rattle.ct_poly.proofs.Base.{length}
 use Rattle.ct_poly.proofs.Termwise.{IsMaking}
 use Rattle.ct_poly.proofs.Negatives.{negative}
 use Rattle.ct_poly.proofs.sum.negative_of_terms.Given as goal

@@ -1,13 +1,10 @@
-use Rattle.std.proofs.Common.{◌≡◌, ◌++◌, ◌∙◌, sym, [], ◌∷◌, rules, pos, ◌+ℤ◌, FitsSigned, nat_abs, arith, ◌+◌, ◌≤◌}
-use Rattle.std.specs.Int.{w128}
-use Rattle.std.proofs.lemmas.Int.{to_z-of_z}
-use Rattle.ct_algebra.specs.Monomial.{mono_turned_back, monomials}
-use Rattle.ct_algebra.specs.WholeNumbers.{int_group}
-use Rattle.ct_checked.specs.Limits.{largest_norm}
+use Rattle.ct_poly.proofs.Base.{◌≡◌, ◌++◌, ◌∙◌, sym, [], ◌∷◌, rules, pos, ◌+ℤ◌, FitsSigned, nat_abs, arith, ◌+◌, ◌≤◌, w128, to_z-of_z}
+use Rattle.ct_poly.proofs.Base.{mono_turned_back, monomials, int_group, largest_norm}
 use Rattle.ct_poly.specs.declared.term.Term.{Term}
 use Rattle.ct_poly.specs.Terms.{entry}
 use Rattle.ct_poly.proofs.TermLists.{no_length, abs_sum}
-use Rattle.ct_poly.proofs.Merging.{merging_start, first_taken, second_taken, has_room, both_met, sum_kept, sum_gone, first_ended, second_ended, sum_is}
+use Rattle.ct_poly.proofs.Merging.{merging_start, first_taken, second_taken, has_room, both_met, sum_kept, sum_gone, first_ended, second_ended}
+use Rattle.ct_poly.proofs.Merging.{sum_is}
 use Rattle.ct_poly.proofs.sum.sum_of_terms.Goals as goal
 
 pub merging-init : goal.merging-init

@@ -1,6 +1,4 @@
-use Rattle.std.proofs.Common.{length, ◌+◌}
-use Rattle.ct_algebra.specs.Monomial.{monomials}
-use Rattle.ct_algebra.specs.WholeNumbers.{int_group}
+use Rattle.ct_poly.proofs.Base.{length, ◌+◌, monomials, int_group}
 use Rattle.ct_poly.specs.Terms.{entry}
 use Rattle.ct_poly.proofs.Merging.{IsMerging}
 use Rattle.ct_poly.proofs.sum.sum_of_terms.Given as goal

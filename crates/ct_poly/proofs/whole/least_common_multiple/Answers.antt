@@ -1,5 +1,4 @@
-use Rattle.std.proofs.Common.{◌*◌, ◌/◌, subst}
-use Rattle.ct_checked.specs.Checked.{Answers}
+use Rattle.ct_poly.proofs.Base.{◌*◌, ◌/◌, subst, Answers}
 use Rattle.ct_poly.specs.Wholes.{checked_whole}
 use Rattle.ct_int.specs.Divisors.{least_common}
 use Rattle.ct_int.proofs.CommonDivisors.{divisor_positive, greatest_common_only}

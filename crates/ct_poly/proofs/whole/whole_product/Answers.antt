@@ -1,5 +1,4 @@
-use Rattle.std.proofs.Common.{◌≡◌, ◌≤◌, ◌*◌, Ok, ◌∙◌, ap, arith}
-use Rattle.ct_checked.specs.Limits.{largest_norm}
+use Rattle.ct_poly.proofs.Base.{◌≡◌, ◌≤◌, ◌*◌, Ok, ◌∙◌, ap, arith, largest_norm}
 use Rattle.ct_poly.proofs.WholeLimits.{whole_fits, whole_passes}
 use Rattle.ct_poly.proofs.whole.whole_product.Goals as goal
 

@@ -1,4 +1,4 @@
-use Rattle.std.proofs.Common.{sym, arith}
+use Rattle.ct_ore.proofs.Base.{sym, arith}
 use Rattle.ct_ore.specs.Naming.{naming_of}
 use Rattle.ct_ore.proofs.PairMeasureLaws.{known_action, no_action}
 use Rattle.ct_ore.proofs.algebra.Algebra.action.Goals as goal

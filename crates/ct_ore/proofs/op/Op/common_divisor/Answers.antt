@@ -1,4 +1,4 @@
-use Rattle.std.proofs.Common.{subst}
+use Rattle.ct_ore.proofs.Base.{subst}
 use Rattle.ct_ore.specs.Wholes.{IsCommonDivisor}
 use Rattle.ct_ore.proofs.WholeDivisors.{common_only}
 use Rattle.ct_ore.proofs.op.Op.common_divisor.Goals as goal

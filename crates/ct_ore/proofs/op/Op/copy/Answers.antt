@@ -1,4 +1,4 @@
-use Rattle.std.proofs.Common.{◌≡◌, ◌∙◌, ap}
+use Rattle.ct_ore.proofs.Base.{◌≡◌, ◌∙◌, ap}
 use Rattle.ct_ore.specs.Terms.{op_entries}
 use Rattle.ct_ore.proofs.WrittenOperators.{terms_of, value_of_terms}
 use Rattle.ct_ore.proofs.OperatorMeasures.{fits_of_terms, fits_of_invariant}

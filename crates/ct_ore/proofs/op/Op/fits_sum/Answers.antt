@@ -1,5 +1,4 @@
-use Rattle.std.proofs.Common.{◌≤◌, sym, ◌∙◌, subst, arith}
-use Rattle.ct_checked.specs.Limits.{most_terms, largest_norm}
+use Rattle.ct_ore.proofs.Base.{◌≤◌, sym, ◌∙◌, subst, arith, most_terms, largest_norm}
 use Rattle.ct_ore.specs.Terms.{op_entries}
 use Rattle.ct_ore.proofs.OperatorMeasures.{listed_count, listed_norm}
 use Rattle.ct_ore.proofs.OperatorSums.{sum_too_many, sum_too_large, sum_allowed}

@@ -1,6 +1,4 @@
-use Rattle.std.proofs.Common.{◌∙◌, ap, sym, subst₂}
-use Rattle.ct_algebra.specs.Operators.{negative}
-use Rattle.ct_checked.specs.Checked.{verdict_fits, verdict_refuses}
+use Rattle.ct_ore.proofs.Base.{◌∙◌, ap, sym, subst₂, negative, verdict_fits, verdict_refuses}
 use Rattle.ct_ore.specs.Measures.{checked_difference, difference_of_operators}
 use Rattle.ct_ore.specs.TermSums.{CanAdd, negatives}
 use Rattle.ct_ore.proofs.OperatorMeasures.{fits_of_terms}

@@ -1,5 +1,4 @@
-use Rattle.std.proofs.Common.{sym, subst₂}
-use Rattle.ct_checked.specs.Checked.{verdict_fits, verdict_refuses}
+use Rattle.ct_ore.proofs.Base.{sym, subst₂, verdict_fits, verdict_refuses}
 use Rattle.ct_ore.specs.Measures.{checked_sum}
 use Rattle.ct_ore.specs.TermSums.{CanAdd}
 use Rattle.ct_ore.proofs.OperatorMeasures.{fits_of_terms}

@@ -1,5 +1,4 @@
-use Rattle.std.proofs.Common.{arith}
-use Rattle.std.proofs.lemmas.Grind.{common_steps}
+use Rattle.ct_ore.proofs.Base.{arith, common_steps}
 use Rattle.ct_ore.proofs.WrittenOperators.{is_none}
 use Rattle.ct_ore.proofs.op.Op.is_zero.Goals as goal
 

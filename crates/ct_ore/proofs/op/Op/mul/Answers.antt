@@ -1,4 +1,4 @@
-use Rattle.std.proofs.Common.{◌≡◌, None, ◌∙◌, sym, ap, subst, arith}
+use Rattle.ct_ore.proofs.Base.{◌≡◌, None, ◌∙◌, sym, ap, subst, arith}
 use Rattle.ct_ore.specs.Naming.{actions_of}
 use Rattle.ct_ore.specs.Terms.{op_entries}
 use Rattle.ct_ore.specs.CoefficientTerms.{sum_of_parts}

@@ -1,4 +1,4 @@
-use Rattle.std.proofs.Common.{sym, subst}
+use Rattle.ct_ore.proofs.Base.{sym, subst}
 use Rattle.ct_ore.specs.CoefficientTerms.{sum_of_parts}
 use Rattle.ct_ore.specs.Lists.{Fits}
 use Rattle.ct_ore.proofs.WrittenForm.{coefficients_of_sum}

@@ -1,8 +1,4 @@
-use Rattle.std.proofs.Common.{◌≡◌, ◌≢◌, IsTrue, false, [], ◌∷◌, ◌∙◌, ap, sym, rules, arith}
-use Rattle.std.proofs.lemmas.Grind.{common_steps}
-use Rattle.ct_algebra.specs.Polynomial.{polys}
-use Rattle.ct_algebra.specs.Operators.{term_of}
-use Rattle.ct_algebra.proofs.OperatorTerms.{term_of-zero}
+use Rattle.ct_ore.proofs.Base.{◌≡◌, ◌≢◌, IsTrue, false, [], ◌∷◌, ◌∙◌, ap, sym, rules, arith, common_steps, polys, term_of, term_of-zero}
 use Rattle.ct_ore.specs.Terms.{op_entries}
 use Rattle.ct_ore.proofs.WrittenOperators.{value_of_terms}
 use Rattle.ct_ore.proofs.OperatorMeasures.{fits_of_terms, terms-term_of, term_fits}

@@ -1,4 +1,4 @@
-use Rattle.std.proofs.Common.{◌∙◌, ap, sym, subst}
+use Rattle.ct_ore.proofs.Base.{◌∙◌, ap, sym, subst}
 use Rattle.ct_ore.specs.Wholes.{DividesTerms, over_whole}
 use Rattle.ct_ore.proofs.OperatorMeasures.{fits_of_terms}
 use Rattle.ct_ore.proofs.WholeDivisors.{over_one, over_listed, over_fits}

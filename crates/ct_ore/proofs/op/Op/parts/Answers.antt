@@ -1,5 +1,4 @@
-use Rattle.std.proofs.Common.{◌≡◌, ◌≤◌, ◌∙◌, ap, sym, subst, arith}
-use Rattle.ct_checked.specs.Limits.{most_terms}
+use Rattle.ct_ore.proofs.Base.{◌≡◌, ◌≤◌, ◌∙◌, ap, sym, subst, arith, most_terms}
 use Rattle.ct_ore.specs.Terms.{op_entries}
 use Rattle.ct_ore.specs.CoefficientTerms.{all_terms, coefficient_terms}
 use Rattle.ct_ore.specs.Measures.{term_count}

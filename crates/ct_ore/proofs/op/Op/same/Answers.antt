@@ -1,7 +1,4 @@
-use Rattle.std.proofs.Common.{sym, ◌∙◌, ap}
-use Rattle.ct_algebra.specs.Monomial.{monomials}
-use Rattle.ct_algebra.specs.Polynomial.{polys}
-use Rattle.ct_algebra.specs.Sums.{same_terms}
+use Rattle.ct_ore.proofs.Base.{sym, ◌∙◌, ap, monomials, polys, same_terms}
 use Rattle.ct_ore.proofs.op.Op.same.Goals as goal
 
 pub returns : goal.returns

@@ -1,6 +1,4 @@
-use Rattle.std.proofs.Common.{◌∙◌, ap₂, sym}
-use Rattle.ct_algebra.specs.Substitution.{one_is}
-use Rattle.ct_algebra.specs.Operators.{term_of}
+use Rattle.ct_ore.proofs.Base.{◌∙◌, ap₂, sym, one_is, term_of}
 use Rattle.ct_ore.proofs.op.Op.symbol.Goals as goal
 
 pub returns : goal.returns

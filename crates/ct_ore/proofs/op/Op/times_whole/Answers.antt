@@ -1,11 +1,4 @@
-use Rattle.std.proofs.Common.{◌≡◌, ◌≤◌, ◌∙◌, ap, subst, pos, to_z, arith}
-use Rattle.std.specs.Int.{w128}
-use Rattle.std.proofs.lemmas.Int.{to_z_pos}
-use Rattle.ct_algebra.specs.Monomial.{unit}
-use Rattle.ct_algebra.specs.Operators.{term_of}
-use Rattle.ct_algebra.specs.Substitution.{number}
-use Rattle.ct_checked.specs.Checked.{Answers}
-use Rattle.ct_checked.specs.Limits.{largest_degree}
+use Rattle.ct_ore.proofs.Base.{◌≡◌, ◌≤◌, ◌∙◌, ap, subst, pos, to_z, arith, w128, to_z_pos, unit, term_of, number, Answers, largest_degree}
 use Rattle.ct_ore.specs.Naming.{actions_of}
 use Rattle.ct_ore.specs.Measures.{checked_product, coefficient_degree, order_of}
 use Rattle.ct_ore.specs.Wholes.{checked_multiple, whole_operator}

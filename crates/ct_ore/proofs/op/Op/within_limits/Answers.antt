@@ -1,5 +1,4 @@
-use Rattle.std.proofs.Common.{◌≤◌, subst}
-use Rattle.ct_checked.specs.Limits.{most_terms, largest_norm}
+use Rattle.ct_ore.proofs.Base.{◌≤◌, subst, most_terms, largest_norm}
 use Rattle.ct_ore.specs.Measures.{term_count, term_norm}
 use Rattle.ct_ore.proofs.op.Op.within_limits.Goals as goal
 

@@ -1,5 +1,4 @@
-use Rattle.std.proofs.Common.{sym, ◌∙◌, ap}
-use Rattle.ct_algebra.specs.Operators.{no_operator}
+use Rattle.ct_ore.proofs.Base.{sym, ◌∙◌, ap, no_operator}
 use Rattle.ct_ore.specs.Terms.{op_entries}
 use Rattle.ct_ore.proofs.WrittenOperators.{terms-no_operator, value_of_terms}
 use Rattle.ct_ore.proofs.OperatorMeasures.{fits_of_terms, no_operator_fits}

@@ -1,5 +1,4 @@
-use Rattle.std.proofs.Common.{sym}
-use Rattle.ct_checked.specs.Checked.{verdict_fits, verdict_refuses}
+use Rattle.ct_poly.proofs.Base.{sym, verdict_fits, verdict_refuses}
 use Rattle.ct_poly.specs.Measures.{checked_plus}
 use Rattle.ct_poly.proofs.poly.Poly.add.Goals as goal
 

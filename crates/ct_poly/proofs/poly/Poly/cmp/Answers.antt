@@ -1,5 +1,4 @@
-use Rattle.std.proofs.Common.{◌∙◌, ap₂}
-use Rattle.std.specs.Cmp.Lexicographic.{slice_cmp}
+use Rattle.ct_poly.proofs.Base.{◌∙◌, ap₂, slice_cmp}
 use Rattle.ct_poly.specs.Order.{poly_cmp, term_cmp}
 use Rattle.ct_poly.proofs.poly.Poly.cmp.Goals as goal
 

@@ -1,8 +1,4 @@
-use Rattle.std.proofs.Common.{sym, ◌∙◌, ap₂}
-use Rattle.std.specs.Int.{w128}
-use Rattle.std.proofs.lemmas.Int.{to_z-of_z}
-use Rattle.std.proofs.lemmas.Result.{IfOk-weaker}
-use Rattle.ct_algebra.specs.Substitution.{term, number_is}
+use Rattle.ct_poly.proofs.Base.{sym, ◌∙◌, ap₂, w128, to_z-of_z, IfOk-weaker, term, number_is}
 use Rattle.ct_poly.proofs.poly.Poly.constant.Goals as goal
 
 pub returns : goal.returns

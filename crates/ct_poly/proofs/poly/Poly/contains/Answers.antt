@@ -1,7 +1,4 @@
-use Rattle.std.proofs.Common.{◌≡◌, ap, ◌∙◌, subst₂, sym}
-use Rattle.std.specs.Prelude.{◌↔◌, false}
-use Rattle.ct_algebra.specs.Monomial.{exp}
-use Rattle.ct_algebra.specs.Terms.{EachTerm}
+use Rattle.ct_poly.proofs.Base.{◌≡◌, ap, ◌∙◌, subst₂, sym, ◌↔◌, false, exp, EachTerm}
 use Rattle.ct_poly.specs.Terms.{entries}
 use Rattle.ct_poly.proofs.TermLists.{terms_of, place-name_with}
 use Rattle.ct_poly.proofs.poly.Poly.contains.Goals as goal

@@ -1,4 +1,4 @@
-use Rattle.std.proofs.Common.{◌≡◌, subst, arith}
+use Rattle.ct_poly.proofs.Base.{◌≡◌, subst, arith}
 use Rattle.ct_poly.specs.Content.{IsContentOf, content}
 use Rattle.ct_poly.proofs.Contents.{content_only, content_small}
 use Rattle.ct_poly.proofs.poly.Poly.content.Goals as goal

@@ -1,4 +1,4 @@
-use Rattle.std.proofs.Common.{arith}
+use Rattle.ct_poly.proofs.Base.{arith}
 use Rattle.ct_poly.proofs.TermLists.{greatest_total-falling}
 use Rattle.ct_poly.proofs.Values.{kept, derivative_refused, derivative_answers}
 use Rattle.ct_poly.proofs.poly.Poly.derive.Goals as goal

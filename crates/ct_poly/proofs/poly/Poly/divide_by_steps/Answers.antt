@@ -1,13 +1,10 @@
-use Rattle.std.proofs.Common.{◌≡◌, ◌+◌, ◌++◌, [], ◌∷◌, length, unsigned_abs, Some, None, sym, ◌∙◌, ap, subst, arith, FitsSigned, rules, Ok, ◌*◌}
-use Rattle.std.specs.Int.{w128}
-use Rattle.std.proofs.lemmas.Int.{to_z-of_z}
-use Rattle.ct_algebra.specs.Leading.{leading}
-use Rattle.ct_algebra.specs.Polynomial.{times}
-use Rattle.ct_algebra.specs.Substitution.{term}
+use Rattle.ct_poly.proofs.Base.{◌≡◌, ◌+◌, ◌++◌, [], ◌∷◌, length, unsigned_abs, Some, None, sym, ◌∙◌, ap, subst, arith, FitsSigned, rules, Ok, ◌*◌}
+use Rattle.ct_poly.proofs.Base.{w128, to_z-of_z, leading, times, term}
 use Rattle.ct_poly.specs.Division.{leading_over}
 use Rattle.ct_poly.specs.Measures.{minus}
 use Rattle.ct_poly.specs.Terms.{entries, entry, size_of, IsListOf, poly_of_terms}
-use Rattle.ct_poly.proofs.DivisionLoop.{division_start, division_more, division_stops, division_falls_here, division_found, division_fails, rules_read, listed}
+use Rattle.ct_poly.proofs.DivisionLoop.{division_start, division_more, division_stops, division_falls_here, division_found, division_fails}
+use Rattle.ct_poly.proofs.DivisionLoop.{rules_read, listed}
 use Rattle.ct_poly.proofs.OfTerms.{list_of, poly_is}
 use Rattle.ct_poly.proofs.poly.Poly.divide_by_steps.Goals as goal
 

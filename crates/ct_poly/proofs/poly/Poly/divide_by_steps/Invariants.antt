@@ -1,4 +1,4 @@
-use Rattle.ct_algebra.specs.Leading.{leading}
+use Rattle.ct_poly.proofs.Base.{leading}
 use Rattle.ct_poly.specs.Division.{leading_rank}
 use Rattle.ct_poly.specs.Terms.{entries}
 use Rattle.ct_poly.proofs.DivisionLoop.{IsDivision}

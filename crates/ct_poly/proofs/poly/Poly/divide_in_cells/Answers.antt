@@ -1,5 +1,4 @@
-use Rattle.std.proofs.Common.{◌∙◌, sym, ap, subst, Ok, Some, length}
-use Rattle.std.specs.Prelude.{IfSome}
+use Rattle.ct_poly.proofs.Base.{◌∙◌, sym, ap, subst, Ok, Some, length, IfSome}
 use Rattle.ct_poly.specs.Cells.{IsQuotient}
 use Rattle.ct_poly.specs.Terms.{IsListOf, poly_of_terms, size_of}
 use Rattle.ct_poly.proofs.CellAnswers.{cells_answer}

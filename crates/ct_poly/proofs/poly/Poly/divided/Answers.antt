@@ -1,6 +1,4 @@
-use Rattle.std.proofs.Common.{◌≡◌, FitsSigned, rules}
-use Rattle.std.specs.Int.{w128}
-use Rattle.std.proofs.lemmas.Int.{to_z-of_z}
+use Rattle.ct_poly.proofs.Base.{◌≡◌, FitsSigned, rules, w128, to_z-of_z}
 use Rattle.ct_poly.specs.Content.{divided}
 use Rattle.ct_poly.specs.Terms.{entries}
 use Rattle.ct_poly.proofs.DividedTerms.{quotients}

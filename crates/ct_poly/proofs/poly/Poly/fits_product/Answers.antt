@@ -1,5 +1,4 @@
-use Rattle.std.proofs.Common.{◌≡◌, ℕ, List, ◌*◌, sym, ◌∙◌, ap, ap₂, arith}
-use Rattle.ct_algebra.specs.Polynomial.{Polynomial, count, norm, degree, degree_of}
+use Rattle.ct_poly.proofs.Base.{◌≡◌, ℕ, List, ◌*◌, sym, ◌∙◌, ap, ap₂, arith, Polynomial, count, norm, degree, degree_of}
 use Rattle.ct_poly.specs.declared.term.Term.{Term}
 use Rattle.ct_poly.specs.Terms.{entries, IsFalling, poly_of_terms}
 use Rattle.ct_poly.proofs.TermLists.{count_of-terms, degree_of-terms}

@@ -1,4 +1,4 @@
-use Rattle.std.proofs.Common.{sym, arith}
+use Rattle.ct_poly.proofs.Base.{sym, arith}
 use Rattle.ct_poly.proofs.TermLists.{count_of-terms}
 use Rattle.ct_poly.proofs.OverflowRules.{sum_too_many, sum_too_large, sum_fits}
 use Rattle.ct_poly.proofs.poly.Poly.fits_sum.Goals as goal

@@ -1,4 +1,4 @@
-use Rattle.std.proofs.Common.{arith}
+use Rattle.ct_poly.proofs.Base.{arith}
 use Rattle.std.proofs.lemmas.Grind.{common_steps}
 use Rattle.ct_poly.proofs.TermLists.{is_none}
 use Rattle.ct_poly.proofs.poly.Poly.is_zero.Goals as goal

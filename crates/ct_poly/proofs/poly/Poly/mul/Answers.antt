@@ -1,9 +1,8 @@
-use Rattle.std.proofs.Common.{refl, sym, inl, inr}
-use Rattle.ct_checked.specs.Checked.{verdict_refuses}
+use Rattle.ct_poly.proofs.Base.{refl, sym, inl, inr, verdict_refuses}
 use Rattle.ct_poly.specs.Measures.{checked_times}
 use Rattle.ct_poly.proofs.Values.{kept, can_multiply, product_is_kept, product_answers, product_with_zero_answers}
-use Rattle.ct_poly.proofs.poly.Poly.mul.Goals as goal
 use Rattle.ct_poly.proofs.poly.Poly.mul.Goals.{then-is_zero-via-then-is_zero, then-is_zero-via-else-is_zero+then-is_zero-2}
+use Rattle.ct_poly.proofs.poly.Poly.mul.Goals as goal
 
 pub returns-then-is_zero : goal.returns-then-is_zero
 returns-then-is_zero c =

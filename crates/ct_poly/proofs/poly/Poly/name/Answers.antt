@@ -1,7 +1,4 @@
-use Rattle.std.proofs.Common.{sym, ◌∙◌, ap, pos}
-use Rattle.std.proofs.lemmas.Result.{IfOk-weaker}
-use Rattle.ct_algebra.specs.Names.{name_with}
-use Rattle.ct_algebra.specs.Substitution.{term, name_is}
+use Rattle.ct_poly.proofs.Base.{sym, ◌∙◌, ap, pos, IfOk-weaker, name_with, term, name_is}
 use Rattle.ct_poly.proofs.poly.Poly.name.Goals as goal
 
 pub returns : goal.returns

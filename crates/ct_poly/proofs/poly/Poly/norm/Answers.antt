@@ -1,4 +1,4 @@
-use Rattle.std.proofs.Common.{sym, ◌∙◌, ap}
+use Rattle.ct_poly.proofs.Base.{sym, ◌∙◌, ap}
 use Rattle.ct_poly.specs.Terms.{size_of}
 use Rattle.ct_poly.proofs.TermLists.{norm_of-terms}
 use Rattle.ct_poly.proofs.poly.Poly.norm.Goals as goal

@@ -1,6 +1,4 @@
-use Rattle.std.proofs.Common.{◌≡◌, sym, ◌∙◌, ap, rules, pos, [], ◌∷◌}
-use Rattle.ct_algebra.specs.Derivative.{zero_term}
-use Rattle.ct_algebra.specs.Substitution.{term}
+use Rattle.ct_poly.proofs.Base.{◌≡◌, sym, ◌∙◌, ap, rules, pos, [], ◌∷◌, zero_term, term}
 use Rattle.ct_poly.proofs.Values.{list_of_term_is}
 use Rattle.ct_poly.proofs.poly.Poly.of_term.Goals as goal
 

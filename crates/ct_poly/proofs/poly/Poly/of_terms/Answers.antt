@@ -1,4 +1,4 @@
-use Rattle.ct_algebra.specs.Polynomial.{terms-poly_of}
+use Rattle.ct_poly.proofs.Base.{terms-poly_of}
 use Rattle.ct_poly.specs.Terms.{entries, poly_of_terms}
 use Rattle.ct_poly.proofs.poly.Poly.of_terms.Goals as goal
 

@@ -1,6 +1,4 @@
-use Rattle.std.proofs.Common.{◌≡◌, pos, to_z, arith}
-use Rattle.std.specs.Int.{w128}
-use Rattle.std.proofs.lemmas.Int.{to_z_pos}
+use Rattle.ct_poly.proofs.Base.{◌≡◌, pos, to_z, arith, w128, to_z_pos}
 use Rattle.ct_poly.proofs.WholeDivisors.{each_divides}
 use Rattle.ct_poly.proofs.poly.Poly.over_whole.Goals as goal
 

@@ -1,6 +1,4 @@
-use Rattle.std.proofs.Common.{map}
-use Rattle.ct_algebra.specs.Names.{name_with}
-use Rattle.ct_algebra.specs.Coefficients.{coefficient_in}
+use Rattle.ct_poly.proofs.Base.{map, name_with, coefficient_in}
 use Rattle.ct_poly.proofs.OfTerms.{list_of, poly_is}
 use Rattle.ct_poly.proofs.Parts.{part_kept}
 use Rattle.ct_poly.proofs.Values.{IsKept}

@@ -1,4 +1,4 @@
-use Rattle.std.proofs.Common.{sym}
+use Rattle.ct_poly.proofs.Base.{sym}
 use Rattle.ct_poly.proofs.Values.{kept, sum_small, sum_is_kept, sum_is}
 use Rattle.ct_poly.proofs.poly.Poly.plus.Goals as goal
 

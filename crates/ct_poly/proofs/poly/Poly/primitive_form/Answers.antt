@@ -1,8 +1,4 @@
-use Rattle.std.proofs.Common.{◌∙◌, sym, ap₂, subst₂, FitsSigned, rules}
-use Rattle.std.specs.Int.{w128}
-use Rattle.std.proofs.lemmas.Int.{to_z-of_z}
-use Rattle.std.proofs.lemmas.Result.{IfOk-weaker}
-use Rattle.ct_algebra.specs.Terms.{EachTerm}
+use Rattle.ct_poly.proofs.Base.{◌∙◌, sym, ap₂, subst₂, FitsSigned, rules, w128, to_z-of_z, IfOk-weaker, EachTerm}
 use Rattle.ct_poly.specs.Content.{TermDivides, divided, primitive_form}
 use Rattle.ct_poly.proofs.PrimitiveParts.{form_goes}
 use Rattle.ct_poly.proofs.poly.Poly.primitive_form.Goals as goal

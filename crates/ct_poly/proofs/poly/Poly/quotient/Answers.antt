@@ -1,5 +1,4 @@
-use Rattle.std.proofs.Common.{sym, ap, subst, Err}
-use Rattle.ct_checked.specs.Checked.{Answers}
+use Rattle.ct_poly.proofs.Base.{sym, ap, subst, Err, Answers}
 use Rattle.ct_poly.specs.Division.{checked_quotient, quotient, value_or_none}
 use Rattle.ct_poly.proofs.DivisionLaws.{some_quotient}
 use Rattle.ct_poly.proofs.poly.Poly.quotient.Goals as goal

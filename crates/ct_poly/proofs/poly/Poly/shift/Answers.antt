@@ -1,4 +1,4 @@
-use Rattle.std.proofs.Common.{arith}
+use Rattle.ct_poly.proofs.Base.{arith}
 use Rattle.ct_poly.proofs.TermLists.{greatest_total-falling}
 use Rattle.ct_poly.proofs.Values.{kept, shift_by_none_answers, shift_refused_terms, shift_refused_number, shift_answers}
 use Rattle.ct_poly.proofs.poly.Poly.shift.Goals as goal

@@ -1,6 +1,4 @@
-use Rattle.std.proofs.Common.{◌∙◌, ap, ap₂, FitsSigned, rules}
-use Rattle.std.specs.Int.{w128}
-use Rattle.std.proofs.lemmas.Int.{to_z-of_z}
+use Rattle.ct_poly.proofs.Base.{◌∙◌, ap, ap₂, FitsSigned, rules, w128, to_z-of_z}
 use Rattle.ct_poly.specs.Content.{is_negative, leads_below_zero, signed, signed_content}
 use Rattle.ct_poly.proofs.poly.Poly.signed_content.Goals as goal
 

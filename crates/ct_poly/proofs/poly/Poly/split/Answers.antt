@@ -1,8 +1,4 @@
-use Rattle.std.proofs.Common.{◌≡◌, ◌∙◌, sym, ap, ap₂, subst₂, FitsSigned, rules}
-use Rattle.std.specs.Int.{w128}
-use Rattle.std.proofs.lemmas.Int.{to_z-of_z}
-use Rattle.ct_algebra.specs.Monomial.{mono}
-use Rattle.ct_algebra.specs.Terms.{EachTerm}
+use Rattle.ct_poly.proofs.Base.{◌≡◌, ◌∙◌, sym, ap, ap₂, subst₂, FitsSigned, rules, w128, to_z-of_z, mono, EachTerm}
 use Rattle.ct_poly.specs.Content.{TermDivides, divided, is_negative, leads_below_zero, least_exp, common_monomial, primitive_part}
 use Rattle.ct_poly.proofs.PrimitiveParts.{part_goes}
 use Rattle.ct_poly.proofs.poly.Poly.split.Goals as goal

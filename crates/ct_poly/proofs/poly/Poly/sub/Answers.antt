@@ -1,7 +1,4 @@
-use Rattle.std.proofs.Common.{sym, subst}
-use Rattle.std.specs.Prelude.{length}
-use Rattle.ct_algebra.specs.Polynomial.{polys}
-use Rattle.ct_checked.specs.Checked.{verdict_refuses}
+use Rattle.ct_poly.proofs.Base.{sym, subst, length, polys, verdict_refuses}
 use Rattle.ct_poly.specs.Terms.{IsListOf, poly_of_terms, size_of}
 use Rattle.ct_poly.specs.Measures.{checked_minus}
 use Rattle.ct_poly.proofs.Values.{kept, difference_small, difference_is_kept, difference_answers}

@@ -1,4 +1,4 @@
-use Rattle.std.proofs.Common.{ap, ◌∙◌}
+use Rattle.ct_poly.proofs.Base.{ap, ◌∙◌}
 use Rattle.ct_poly.specs.Terms.{entries}
 use Rattle.ct_poly.proofs.TermLists.{terms_of}
 use Rattle.ct_poly.proofs.poly.Poly.terms.Goals as goal

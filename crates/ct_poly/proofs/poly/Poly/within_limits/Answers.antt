@@ -1,4 +1,4 @@
-use Rattle.std.proofs.Common.{arith}
+use Rattle.ct_poly.proofs.Base.{arith}
 use Rattle.ct_poly.proofs.TermLists.{count_of-terms, norm_of-terms}
 use Rattle.ct_poly.proofs.poly.Poly.within_limits.Goals as goal
 
