@@ -26,7 +26,7 @@ module _ (names : List Naming) (operators is_symbol : Bool) (m : Mono) where
   powers_fit zero le each = tt
   powers_fit (suc n) le each =
       Each-append (PowerFits names operators) (powers_in is_symbol n m) (power_at is_symbol n (exp m n)) (powers_fit n (omega arith) each)
-          (by (exp m n) refl)
+      (by (exp m n) refl)
     where
       by : (e : ℕ) → exp m n ≡ e → Each (PowerFits names operators) (power_at is_symbol n e)
       by zero is = tt

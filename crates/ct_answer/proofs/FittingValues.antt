@@ -23,8 +23,13 @@ small_entries p low small = small_list p.terms p.canonical (lower p largest_degr
 is_small : (c : Polynomial) → 0 < length c.terms → length c.terms ≤ most_terms → norm c ≤ largest_norm → degree c ≤ largest_degree → IsSmall c
 unfolding count none
 is_small c some few small low =
-    record { some = λ absent. let counted = ap (λ (p : Polynomial). length p.terms) absent in
-        absurd (omega (arith, counted, some)); few = few; small = small; low = low }
+    record {
+      some = λ absent. let counted = ap (λ (p : Polynomial). length p.terms) absent in
+          absurd (omega (arith, counted, some));
+      few = few;
+      small = small;
+      low = low;
+    }
 
 operator_list : (es : List (Mono × Polynomial)) → IsCanonical monomials polys.group es → entries_count es ≤ most_terms →
     entries_norm es ≤ largest_norm

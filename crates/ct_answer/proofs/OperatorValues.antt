@@ -39,13 +39,13 @@ module _ (a : Name → Action) where
   before_has c (e ∷ []) qs same some entries known symbols low =
       let alone : term e.0 e.1 ≡ c = same_terms monomials int_group _ _ (terms-term e.0 e.1 entries.0.some ∙ sym same) in
       let sized : nat_abs e.1 ≡ norm_of (e ∷ []) = let plain : nat_abs e.1 + 0 ≡ nat_abs e.1 = omega arith in
-              sym plain ∙ sym (sum_by-cons (λ (d : Mono × ℤ). nat_abs d.1) e []) in
+      sym plain ∙ sym (sum_by-cons (λ (d : Mono × ℤ). nat_abs d.1) e []) in
       subst (λ (s : ℕ). TermHas a (signed_expression e.1 (names_in e.0 ++ qs)) (term_of (all_of qs) c) 1 s) sized
       (subst (λ (d : Polynomial). TermHas a (signed_expression e.1 (names_in e.0 ++ qs)) (term_of (all_of qs) d) 1 (nat_abs e.1)) alone
       (signed_has a e.0 qs symbols entries.0.low low e.1 entries.0.some entries.0.small))
   before_has c (e ∷ f ∷ es) qs same some entries known symbols low =
       let counted : term_count (term_of (all_of qs) c) ≡ length (e ∷ f ∷ es) = term_count-one (all_of qs) c known.some
-              ∙ count_is c (e ∷ f ∷ es) same in
+      ∙ count_is c (e ∷ f ∷ es) same in
       let weighed : term_norm (term_of (all_of qs) c) ≡ norm_of (e ∷ f ∷ es) = term_norm-one (all_of qs) c known.some ∙ norm_is c (e ∷ f ∷ es) same in
       let few : length (e ∷ f ∷ es) ≤ most_terms = subst (λ (n : ℕ). n ≤ most_terms) (count_is c (e ∷ f ∷ es) same) known.few in
       let small : norm_of (e ∷ f ∷ es) ≤ largest_norm = subst (λ (n : ℕ). n ≤ largest_norm) (norm_is c (e ∷ f ∷ es) same) known.small in
@@ -68,7 +68,7 @@ module _ (a : Name → Action) where
   product_makes c [] some entries known symbols low = Makes-polynomial a c some entries
   product_makes c (q ∷ qs) some entries known symbols low =
       Makes-one a (before_symbols c.terms (q ∷ qs)) (term_of (all_of (q ∷ qs)) c) (length c.terms) (norm_of c.terms)
-          (before_has c c.terms (q ∷ qs) refl some entries known symbols low)
+      (before_has c c.terms (q ∷ qs) refl some entries known symbols low)
 
   entry_makes : (e : Mono × Polynomial) → IsSmallOperatorEntry e →
       Makes a (operator_entry_expressions e) (term_of e.0 e.1) (length e.1.terms) (norm_of e.1.terms)
@@ -107,7 +107,7 @@ module _ (a : Name → Action) where
   list_value [] known few small = zero_value a ∙ ap (λ (x : Operator). Ok (over_one x)) (sym operator_laws.sums_of_terms.of_none)
   list_value (e ∷ es) known few small =
       sum_value a (operator_expressions (e ∷ es)) (operator_of (e ∷ es)) (entries_count (e ∷ es)) (entries_norm (e ∷ es))
-          (entries_make e es known.0 (entries_add es known.1)).begins few small
+      (entries_make e es known.0 (entries_add es known.1)).begins few small
 
   pub operator_value : (p : Operator) → Each IsSmallOperatorEntry p.terms → term_count p ≤ most_terms → term_norm p ≤ largest_norm →
       value_of a (operator_expression p) ≡ Ok p

@@ -1,7 +1,8 @@
 -- Products in which nothing passes a symbol: by powers of names before symbols, and by powers of symbols behind names.
 -- Main lemmas `times_names` and `times_symbols`: every pair of terms makes one term, so the product is within the limits where
 -- its value is.
-use Rattle.std.proofs.Common.{◌≡◌, ◌≢◌, ◌⊎◌, inl, inr, ℕ, zero, suc, ◌+◌, ◌*◌, ◌^◌, ◌≤◌, Bool, true, false, cond, eqb, ltb, le-ltb, ℤ, pos, nat_abs, List, [], ◌∷◌, length, None, Option, Ok, refl, sym, ap, ap₂, ◌∙◌, subst, arith, min}
+use Rattle.std.proofs.Common.{◌≡◌, ◌≢◌, ◌⊎◌, inl, inr, ℕ, zero, suc, ◌+◌, ◌*◌, ◌^◌, ◌≤◌, Bool, true, false, cond, eqb, ltb, le-ltb, ℤ, pos, nat_abs}
+use Rattle.std.proofs.Common.{List, [], ◌∷◌, length, None, Option, Ok, refl, sym, ap, ap₂, ◌∙◌, subst, arith, min}
 use native.Mathlib.Nat.{pow-zero}
 use Rattle.std.proofs.lemmas.List.Sums.{sum_by-cons}
 use Rattle.ct_algebra.specs.Sums.{none}
@@ -11,7 +12,8 @@ use Rattle.ct_algebra.specs.Polynomial.{Polynomial, polys, times, count, norm, n
 use Rattle.ct_algebra.specs.Substitution.{term, number_is, one_is}
 use Rattle.ct_algebra.specs.Actions.{Action, Shift, Derive, Still, by_action}
 use Rattle.ct_algebra.specs.Operators.{Operator, term_of, product_of, symbol_before, multiple}
-use Rattle.ct_algebra.proofs.ProductRule.{multiple-term_of, product_of-term_of, product_of-polynomial, multiple-one_term, symbol_before-one, symbols_commute}
+use Rattle.ct_algebra.proofs.ProductRule.{multiple-term_of, product_of-term_of, product_of-polynomial, multiple-one_term, symbol_before-one}
+use Rattle.ct_algebra.proofs.ProductRule.{symbols_commute}
 use Rattle.ct_checked.specs.Checked.{verdict}
 use Rattle.ct_checked.specs.Limits.{largest_degree, most_terms, largest_norm}
 use Rattle.ct_checked.specs.declared.fault.Kind.{Kind}
@@ -62,7 +64,8 @@ module _ (a : Name → Action) where
   Apart m n = (i : Name) → (exp m (place i) ≡ 0) ⊎ (exp n (place i) ≡ 0)
 
   pairs_are_one : (m n : Mono) → Apart m n →
-      (over_names (λ i. pair_count a i (exp m (place i)) (exp n (place i))) ≡ 1) × (over_names (λ i. pair_weight a i (exp m (place i)) (exp n (place i))) ≡ 1)
+      (over_names (λ i. pair_count a i (exp m (place i)) (exp n (place i))) ≡ 1) ×
+      (over_names (λ i. pair_weight a i (exp m (place i)) (exp n (place i))) ≡ 1)
   pairs_are_one m n apart =
       let one = λ (i : Name). one_term_each i (exp m (place i)) (exp n (place i)) (apart i) in
       (all_ones _ (λ i. (one i).0) number_of_names, all_ones _ (λ i. (one i).1) number_of_names)
@@ -76,26 +79,30 @@ module _ (a : Name → Action) where
   abbrev factor : Mono → Mono → CoefficientTerm
   factor m n = record { symbols = m; names = n; number = pos 1 }
 
-  count_row : (m : Mono) (k : Mono) (n : Mono) → Apart m n → (es : List (Mono × ℤ)) → measure_of_pairs a false (row_of m es) (factor k n ∷ []) ≡ length es
+  count_row : (m : Mono) (k : Mono) (n : Mono) → Apart m n → (es : List (Mono × ℤ)) →
+      measure_of_pairs a false (row_of m es) (factor k n ∷ []) ≡ length es
   count_row m k n apart [] = refl
   count_row m k n apart (e ∷ es) =
       let one = (pairs_are_one m n apart).0 in
       omega (
         arith,
-        sum_by-cons (λ (s : CoefficientTerm). measure_of_row a false s (factor k n ∷ [])) (record { symbols = m; names = e.0; number = e.1 }) (row_of m es),
+        sum_by-cons (λ (s : CoefficientTerm). measure_of_row a false s (factor k n ∷ [])) (record { symbols = m; names = e.0; number = e.1 })
+            (row_of m es),
         sum_by-cons (λ (t : CoefficientTerm). pair_measure a false (record { symbols = m; names = e.0; number = e.1 }) t) (factor k n) [],
         one,
         count_row m k n apart es,
       )
 
-  weight_row : (m : Mono) (k : Mono) (n : Mono) → Apart m n → (es : List (Mono × ℤ)) → measure_of_pairs a true (row_of m es) (factor k n ∷ []) ≡ norm_of es
+  weight_row : (m : Mono) (k : Mono) (n : Mono) → Apart m n → (es : List (Mono × ℤ)) →
+      measure_of_pairs a true (row_of m es) (factor k n ∷ []) ≡ norm_of es
   weight_row m k n apart [] = refl
   weight_row m k n apart (e ∷ es) =
       let one = (pairs_are_one m n apart).1 in
       let here : nat_abs e.1 * 1 * over_names (λ i. pair_weight a i (exp m (place i)) (exp n (place i))) ≡ nat_abs e.1 = rw one (omega arith) in
       omega (
         arith,
-        sum_by-cons (λ (s : CoefficientTerm). measure_of_row a true s (factor k n ∷ [])) (record { symbols = m; names = e.0; number = e.1 }) (row_of m es),
+        sum_by-cons (λ (s : CoefficientTerm). measure_of_row a true s (factor k n ∷ [])) (record { symbols = m; names = e.0; number = e.1 })
+            (row_of m es),
         sum_by-cons (λ (t : CoefficientTerm). pair_measure a true (record { symbols = m; names = e.0; number = e.1 }) t) (factor k n) [],
         here,
         weight_row m k n apart es,
@@ -125,7 +132,8 @@ module _ (a : Name → Action) where
   second_terms : (k n : Mono) → coefficient_terms (term_of k (term n (pos 1))) ≡ factor k n ∷ []
   second_terms k n = coefficient_terms-one k (term n (pos 1)) (some_term n (pos 1) tt) ∙ ap (row_of k) (terms-term n (pos 1) tt)
 
-  product_fits : (m k n : Mono) (c : Polynomial) → c ≢ polys.zero → Apart m n → count c ≤ most_terms → norm c ≤ largest_norm → degree c + total n ≤ largest_degree → total m + total k ≤ largest_degree
+  product_fits : (m k n : Mono) (c : Polynomial) → c ≢ polys.zero → Apart m n → count c ≤ most_terms → norm c ≤ largest_norm →
+      degree c + total n ≤ largest_degree → total m + total k ≤ largest_degree
       → FitsProduct a (term_of m c) (term_of k (term n (pos 1)))
   unfolding count norm degree
   product_fits m k n c some apart few small low low_order =
@@ -135,7 +143,13 @@ module _ (a : Name → Action) where
       let weighed = sym (norm-pairs a _ _) ∙ ap₂ (measure_of_pairs a true) first second ∙ weight_row m k n apart c.terms in
       let second_degree : degree (term n (pos 1)) ≡ total n = ap degree_of (terms-term n (pos 1) tt) in
       record {
-        degrees = omega (arith, coefficient_degree-one m c some, coefficient_degree-one k (term n (pos 1)) (some_term n (pos 1) tt), second_degree, low);
+        degrees = omega (
+          arith,
+          coefficient_degree-one m c some,
+          coefficient_degree-one k (term n (pos 1)) (some_term n (pos 1) tt),
+          second_degree,
+          low,
+        );
         orders = omega (arith, order_of-one m c some, order_of-one k (term n (pos 1)) (some_term n (pos 1) tt), low_order);
         count = omega (arith, counted, few);
         norm = omega (arith, weighed, small);
@@ -165,9 +179,11 @@ module _ (a : Name → Action) where
       ∙ ap (λ (n : Mono). term_of n polys.one) (sym (·_assoc (symbol i) m k)))
 
   -- a power of symbols behind a term
-  pub times_symbols : (m k : Mono) (c : Polynomial) → c ≢ polys.zero → count c ≤ most_terms → norm c ≤ largest_norm → degree c ≤ largest_degree → total m + total k ≤ largest_degree
+  pub times_symbols : (m k : Mono) (c : Polynomial) → c ≢ polys.zero → count c ≤ most_terms → norm c ≤ largest_norm → degree c ≤ largest_degree →
+      total m + total k ≤ largest_degree
       → checked_product a (term_of m c) (term_of k polys.one) ≡ Ok (term_of (m · k) c)
   times_symbols m k c some few small low low_order =
       let fits = product_fits m k unit c some (unit_apart m) few small (omega (arith, low, total_unit)) low_order in
-      times_fits (term_of m c) (term_of k polys.one) (term_of (m · k) c) (subst (λ (d : Polynomial). FitsProduct a (term_of m c) (term_of k d)) (sym (one_is ∙ number_is (pos 1))) fits)
+      times_fits (term_of m c) (term_of k polys.one) (term_of (m · k) c)
+      (subst (λ (d : Polynomial). FitsProduct a (term_of m c) (term_of k d)) (sym (one_is ∙ number_is (pos 1))) fits)
       (product_of-term_of a m c _ ∙ ap (multiple a c) (symbols_before k m) ∙ multiple-one_term a (m · k) c)

@@ -117,7 +117,7 @@ module _ (a : Name → Action) where
       Makes a (entry_expressions c.terms) (term_of unit c) (length c.terms) (norm_of c.terms)
   Makes-polynomial c some known =
       subst (λ (d : Polynomial). Makes a (entry_expressions c.terms) (term_of unit d) (length c.terms) (norm_of c.terms)) (rebuilt c)
-          (by c.terms some known)
+      (by c.terms some known)
     where
       by : (es : List (Mono × ℤ)) → 0 < length es → Each IsSmallEntry es →
           Makes a (entry_expressions es) (term_of unit (poly_of es)) (length es) (norm_of es)
@@ -142,4 +142,4 @@ module _ (a : Name → Action) where
           zero_value a ∙ ap (λ (x : Operator). Ok (over_one x)) (sym (ap (term_of unit) polynomial_laws.sums_of_terms.of_none ∙ term_of-zero unit))
       sum_value_of (e ∷ es) known few small =
           sum_value a (entry_expressions (e ∷ es)) (term_of unit (poly_of (e ∷ es))) (length (e ∷ es)) (norm_of (e ∷ es))
-              (entries_make e es known.0 (Adds-entries es known.1)).begins few small
+          (entries_make e es known.0 (Adds-entries es known.1)).begins few small

@@ -53,11 +53,11 @@ module _ (a : Name → Action) where
       let known = small_term m x some small (omega (arith, low)) in
       let same : degree (term m x) ≡ total m = ap degree_of (terms-term m x some) in
       times_names a n (term m x) known.some known.few known.small (omega (arith, same, low))
-          ∙ ap (λ (c : Polynomial). Ok (term_of unit c)) (times_term m n x)
+      ∙ ap (λ (c : Polynomial). Ok (term_of unit c)) (times_term m n x)
 
   names_power : (s : Mono) (n : ℕ) (m : Mono) → total m + total (raised s n) ≤ largest_degree
       → power_from a (over_one (term_of unit (term m (pos 1)))) n (over_one (term_of unit (term s (pos 1)))) ≡
-          Ok (over_one (term_of unit (term (m · raised s n) (pos 1))))
+      Ok (over_one (term_of unit (term (m · raised s n) (pos 1))))
   unfolding power_from raised
   names_power s zero m low = ap (λ (k : Mono). Ok (over_one (term_of unit (term k (pos 1))))) (sym (·-unit m))
   names_power s (suc n) m low =
@@ -65,7 +65,7 @@ module _ (a : Name → Action) where
       ap (λ (c : Checked Value). c >>= (λ more. power_from a more n (over_one (term_of unit (term s (pos 1))))))
       (times_over_one a _ _ _ (more_names m s (pos 1) tt (omega arith) (omega (arith, sum, low))))
       ∙ names_power s n (m · s) (omega (arith, sum, total-· m s, low))
-          ∙ ap (λ (k : Mono). Ok (over_one (term_of unit (term k (pos 1))))) (·_assoc m s (raised s n))
+      ∙ ap (λ (k : Mono). Ok (over_one (term_of unit (term k (pos 1))))) (·_assoc m s (raised s n))
 
   symbols_power : (s : Mono) (n : ℕ) (m : Mono) → total m + total (raised s n) ≤ largest_degree
       → power_from a (over_one (term_of m polys.one)) n (over_one (term_of s polys.one)) ≡ Ok (over_one (term_of (m · raised s n) polys.one))
@@ -77,14 +77,14 @@ module _ (a : Name → Action) where
       (times_over_one a _ _ _ (times_symbols a m s polys.one small_one.some small_one.few small_one.small small_one.low
       (omega (arith, sum, low))))
       ∙ symbols_power s n (m · s) (omega (arith, sum, total-· m s, low))
-          ∙ ap (λ (k : Mono). Ok (over_one (term_of k polys.one))) (·_assoc m s (raised s n))
+      ∙ ap (λ (k : Mono). Ok (over_one (term_of k polys.one))) (·_assoc m s (raised s n))
 
   value-Name : (k : ℕ) → fraction_of a (e.Name k) ≡ Ok (over_one (term_of unit (term (symbol (name_with k)) (pos 1))))
   value-Name k = fraction_of-Name a k ∙ ap (λ (c : Polynomial). Ok (over_one (term_of unit c))) (name_is (name_with k))
 
   value-name_power : (k n : ℕ) → total (raised (symbol (name_with k)) n) ≤ largest_degree
       → fraction_of a (cond (n == 1) (e.Name k) (e.Power (e.Name k) n)) ≡
-          Ok (over_one (term_of unit (term (raised (symbol (name_with k)) n) (pos 1))))
+      Ok (over_one (term_of unit (term (raised (symbol (name_with k)) n) (pos 1))))
   value-name_power k n low = by (n == 1) refl
     where
       by : (alone : Bool) → (n == 1) ≡ alone → fraction_of a (cond alone (e.Name k) (e.Power (e.Name k) n)) ≡
@@ -92,12 +92,12 @@ module _ (a : Name → Action) where
       by true is =
           let one : n ≡ 1 = eqb-true n 1 is in
           value-Name k ∙ ap (λ (q : Mono). Ok (over_one (term_of unit (term q (pos 1)))))
-              (sym (ap (raised (symbol (name_with k))) one ∙ raised-one (symbol (name_with k))))
+          (sym (ap (raised (symbol (name_with k))) one ∙ raised-one (symbol (name_with k))))
       by false is =
           fraction_of-Power a (e.Name k) n
           ∙ ap (λ (c : Checked Value). c >>= (λ x. power_from a one_value n x)) (value-Name k)
           ∙ ap (λ (c : Polynomial). power_from a (over_one (term_of unit c)) n (over_one (term_of unit (term (symbol (name_with k)) (pos 1)))))
-              (number_is (pos 1))
+          (number_is (pos 1))
           ∙ names_power (symbol (name_with k)) n unit (omega (arith, total_unit, low))
           ∙ ap (λ (q : Mono). Ok (over_one (term_of unit (term q (pos 1))))) (unit_before (raised (symbol (name_with k)) n))
 
@@ -110,7 +110,7 @@ module _ (a : Name → Action) where
       by true is =
           let one : n ≡ 1 = eqb-true n 1 is in
           fraction_of-Symbol a k ∙ ap (λ (q : Mono). Ok (over_one (term_of q polys.one)))
-              (sym (ap (raised (symbol (name_with k))) one ∙ raised-one (symbol (name_with k))))
+          (sym (ap (raised (symbol (name_with k))) one ∙ raised-one (symbol (name_with k))))
       by false is =
           fraction_of-Power a (e.Symbol k) n
           ∙ ap (λ (c : Checked Value). c >>= (λ x. power_from a one_value n x)) (fraction_of-Symbol a k)
@@ -131,7 +131,7 @@ module _ (a : Name → Action) where
   pub names_value : (ps : List Power) (n : Mono) (x : ℤ) (rest : List (Checked Value)) → Each (λ p. p.is_symbol ≡ false) ps
       → T (cond (int_is_zero x) false true) → nat_abs x ≤ largest_norm → total n + total (all_of ps) ≤ largest_degree
       → product_from a (Some (over_one (term_of unit (term n x)))) (fractions a (power_expressions ps) ++ rest) ≡
-          product_from a (Some (over_one (term_of unit (term (n · all_of ps) x)))) rest
+      product_from a (Some (over_one (term_of unit (term (n · all_of ps) x)))) rest
   unfolding product_from
   names_value [] n x rest names some small low = ap (λ (k : Mono). product_from a (Some (over_one (term_of unit (term k x)))) rest) (sym (·-unit n))
   names_value (p ∷ ps) n x rest names some small low =

@@ -33,7 +33,7 @@ Reads-end whole fresh at e = (refl, refl)
 pub Reads-blank : (text : List ℕ) (ls : List lexeme.Lexeme) → Reads text ls → Reads (32 ∷ text) ls
 Reads-blank text ls rest whole fresh at e =
     let step : scanned fresh at 0 (32 ∷ text) ≡ scanned fresh (at + 1) 0 text =
-            scanned-piece fresh at (32 ∷ text) (Gap 1) (blank_ahead fresh text) (omega arith) (omega arith) in
+    scanned-piece fresh at (32 ∷ text) (Gap 1) (blank_ahead fresh text) (omega arith) (omega arith) in
     let far : drop (at + 1) whole ≡ text = sym (drop-drop 1 at whole) ∙ ap (drop 1) e in
     subst (λ (s : Scanned). (s.bad ≡ None) × (lexemes whole s.tokens ≡ ls)) (sym step) (rest whole fresh (at + 1) far)
 
@@ -46,7 +46,7 @@ Reads-token s bs text ls some piece rest whole fresh at e =
     let within : length bs ≤ length (bs ++ text) = omega (arith, length-append bs text) in
     let same : length bs ≤ length bs = omega arith in
     let back : drop (length bs) (bs ++ text) ≡ text = drop-append-le (length bs) bs text same
-            ∙ ap (λ (xs : List ℕ). xs ++ text) (drop_all (length bs) bs same) in
+    ∙ ap (λ (xs : List ℕ). xs ++ text) (drop_all (length bs) bs same) in
     let front : take (length bs) (bs ++ text) ≡ bs = take-append-le (length bs) bs text same ∙ take_all (length bs) bs same in
     let step : scanned fresh at 0 (bs ++ text)
     ≡ with_piece (Lexeme s (length bs)) at (scanned (is_line_end s) (at + length bs) 0 (drop (length bs) (bs ++ text))) =
@@ -110,8 +110,8 @@ unfolding scan_of
 Writes-whole b e P T w =
     let read : Reads (P ++ []) (w.shown ++ []) = (w.reads [] [] tt Reads-end).1 in
     let plain : Reads P w.shown =
-            subst (λ (text : List ℕ). Reads text w.shown) (append-nil P)
-            (subst (λ (ls : List lexeme.Lexeme). Reads (P ++ []) ls) (append-nil w.shown) read) in
+    subst (λ (text : List ℕ). Reads text w.shown) (append-nil P)
+    (subst (λ (ls : List lexeme.Lexeme). Reads (P ++ []) ls) (append-nil w.shown) read) in
     let all = plain P true 0 refl in
     record { no_bad = all.0; stands = subst T (sym all.1) w.spells }
 

@@ -35,14 +35,14 @@ module _ (names : List Naming) (known : IsAlgebra names) (depth : ℕ) where
   unfolding IsNested
   Writes-nested e es fits =
       let within : Writes false true (entries_text names true (e ∷ es))
-              (IsSum (declared names) true (IsNested (declared names) true depth) (sum_expression (entry_expressions (e ∷ es)))) =
+      (IsSum (declared names) true (IsNested (declared names) true depth) (sum_expression (entry_expressions (e ∷ es)))) =
       Writes-as false true _ (Sum names known true (IsNested (declared names) true depth) (entry_expressions (e ∷ es))) _
       (λ ls h. sum_is names known true (IsNested (declared names) true depth) (entry_expressions (e ∷ es)) ls h)
       (Writes-first_entries names known true (IsNested (declared names) true depth) e es fits) in
       let first = Writes-joined true false true (40 ∷ []) (entries_text names true (e ∷ es)) (one (lexeme.Sign 40)) _
-              (Writes-sign 40 open_parenthesis_is_plain) within in
+      (Writes-sign 40 open_parenthesis_is_plain) within in
       Writes-before true _ _ (Writes-joined true true false ((40 ∷ []) ++ entries_text names true (e ∷ es)) (41 ∷ []) _ (one (lexeme.Sign 41)) first
-          (Writes-sign 41 close_parenthesis_is_plain))
+      (Writes-sign 41 close_parenthesis_is_plain))
 
   -- a coefficient in parentheses, and symbols
   Writes-parenthesized_term : (e : Mono × ℤ) (es : List (Mono × ℤ)) (symbols : List Power) → Each (EntryFits names true) (e ∷ es) →
@@ -51,31 +51,31 @@ module _ (names : List Naming) (known : IsAlgebra names) (depth : ℕ) where
       (ATerm names known true Inner (product_of (sum_expression (entry_expressions (e ∷ es)) ∷ power_expressions symbols)))
   Writes-parenthesized_term e es symbols fits good =
       let factor : Writes true true (((40 ∷ []) ++ entries_text names true (e ∷ es)) ++ 41 ∷ [])
-              (IsFactor (declared names) true Inner (sum_expression (entry_expressions (e ∷ es)))) =
+      (IsFactor (declared names) true Inner (sum_expression (entry_expressions (e ∷ es)))) =
       Writes-as true true _ _ _ (λ ls h. IsFactor.plain (IsAtom.nested h)) (Writes-nested e es fits) in
       term_from names known true Inner (sum_expression (entry_expressions (e ∷ es))) (power_expressions symbols) _ true true
       (Writes-joined true true true _ (later_powers names symbols) _ (each (MoreFactor names known true Inner) (power_expressions symbols)) factor
-          (Writes-later names known true Inner symbols good))
+      (Writes-later names known true Inner symbols good))
 
   Writes-more_parenthesized : (e : Mono × ℤ) (es : List (Mono × ℤ)) (symbols : List Power) → Each (EntryFits names true) (e ∷ es) →
       Each (PowerFits names true) symbols
       → Writes true true (parenthesized names false (e ∷ es) symbols)
-          (MoreTerm names known true Inner (false, product_of (sum_expression (entry_expressions (e ∷ es)) ∷ power_expressions symbols)))
+      (MoreTerm names known true Inner (false, product_of (sum_expression (entry_expressions (e ∷ es)) ∷ power_expressions symbols)))
   Writes-more_parenthesized e es symbols fits good =
       Writes-text true true _ _ _ (grouped (sign_text false false) (40 ∷ []) (entries_text names true (e ∷ es)) (41 ∷ [])
-          (later_powers names symbols))
+      (later_powers names symbols))
       (Writes-joined true true true (sign_text false false) _ _ _ (Writes-before true _ _ (Writes-later_sign false))
-          (Writes-parenthesized_term e es symbols fits good))
+      (Writes-parenthesized_term e es symbols fits good))
 
   Writes-first_parenthesized : (e : Mono × ℤ) (es : List (Mono × ℤ)) (symbols : List Power) → Each (EntryFits names true) (e ∷ es) →
       Each (PowerFits names true) symbols
       → Writes false true (parenthesized names true (e ∷ es) symbols)
-          (First names known true Inner (false, product_of (sum_expression (entry_expressions (e ∷ es)) ∷ power_expressions symbols)))
+      (First names known true Inner (false, product_of (sum_expression (entry_expressions (e ∷ es)) ∷ power_expressions symbols)))
   Writes-first_parenthesized e es symbols fits good =
       Writes-text false true _ _ _ (grouped (sign_text true false) (40 ∷ []) (entries_text names true (e ∷ es)) (41 ∷ [])
-          (later_powers names symbols))
+      (later_powers names symbols))
       (Writes-joined false true true (sign_text true false) _ _ _ (Writes-before false _ _ (Writes-first_sign false))
-          (Writes-parenthesized_term e es symbols fits good))
+      (Writes-parenthesized_term e es symbols fits good))
 
   -- ---- the terms of a coefficient with symbols
 
@@ -88,7 +88,7 @@ module _ (names : List Naming) (known : IsAlgebra names) (depth : ℕ) where
   Writes-more_product (e ∷ []) (p ∷ ps) some fits good =
       Writes-as true true _ (MoreTerm names known true Inner (before_symbols (e ∷ []) (p ∷ ps))) _ (λ ls h. to_nothing h)
       (Writes-more_term names known true Inner e.1 (names_in e.0 ++ p ∷ ps) fits.0.small
-          (Each-append (PowerFits names true) (names_in e.0) (p ∷ ps) fits.0.powers good))
+      (Each-append (PowerFits names true) (names_in e.0) (p ∷ ps) fits.0.powers good))
   Writes-more_product (e ∷ f ∷ es) (p ∷ ps) some fits good =
       Writes-as true true _ (MoreTerm names known true Inner (before_symbols (e ∷ f ∷ es) (p ∷ ps))) _ (λ ls h. to_nothing h)
       (Writes-more_parenthesized e (f ∷ es) (p ∷ ps) fits good)
@@ -102,7 +102,7 @@ module _ (names : List Naming) (known : IsAlgebra names) (depth : ℕ) where
   Writes-first_product (e ∷ []) (p ∷ ps) some fits good =
       Writes-as false true _ (First names known true Inner (before_symbols (e ∷ []) (p ∷ ps))) _ (λ ls h. to_nothing h)
       (Writes-first_term names known true Inner e.1 (names_in e.0 ++ p ∷ ps) fits.0.small
-          (Each-append (PowerFits names true) (names_in e.0) (p ∷ ps) fits.0.powers good))
+      (Each-append (PowerFits names true) (names_in e.0) (p ∷ ps) fits.0.powers good))
   Writes-first_product (e ∷ f ∷ es) (p ∷ ps) some fits good =
       Writes-as false true _ (First names known true Inner (before_symbols (e ∷ f ∷ es) (p ∷ ps))) _ (λ ls h. to_nothing h)
       (Writes-first_parenthesized e (f ∷ es) (p ∷ ps) fits good)
@@ -117,15 +117,20 @@ module _ (names : List Naming) (known : IsAlgebra names) (depth : ℕ) where
       (each (MoreTerm names known true Inner) (operator_entry_expressions e)) (each (MoreTerm names known true Inner) (operator_expressions es))
       (Writes-more_product e.1.terms (symbols_in e.0) fits.0.some fits.0.entries fits.0.symbols) (Writes-more_operators es fits.1) in
       Writes-as true true _ _ _ (λ ls h. each-append (MoreTerm names known true Inner) (operator_entry_expressions e) (operator_expressions es) ls h)
-          all
+      all
 
   sum-append : (ts us : List Term) (ls : List Lexeme) → (Sum names known true Inner ts ▸ each (MoreTerm names known true Inner) us) ls →
       Sum names known true Inner (ts ++ us) ls
   sum-append [] us ls h = absurd h.first
   sum-append (t ∷ ts) us ls h =
       let parts = joined_to_right h in
-      record { front = parts.front; back = parts.back; parts = parts.parts; first = parts.first;
-          second = each-append (MoreTerm names known true Inner) ts us parts.back parts.second }
+      record {
+        front = parts.front;
+        back = parts.back;
+        parts = parts.parts;
+        first = parts.first;
+        second = each-append (MoreTerm names known true Inner) ts us parts.back parts.second;
+      }
 
   Writes-entries : (es : List (Mono × Polynomial)) → Each (OperatorEntryFits names) es →
       Writes false true (operator_entries_text names es) (IsSum (declared names) true Inner (sum_expression (operator_expressions es)))
@@ -135,8 +140,8 @@ module _ (names : List Naming) (known : IsAlgebra names) (depth : ℕ) where
       (Sum names known true Inner (operator_entry_expressions e)) (each (MoreTerm names known true Inner) (operator_expressions es))
       (Writes-first_product e.1.terms (symbols_in e.0) fits.0.some fits.0.entries fits.0.symbols) (Writes-more_operators es fits.1) in
       Writes-as false true _ _ _
-          (λ ls h. sum_is names known true Inner (operator_expressions (e ∷ es)) ls
-          (sum-append (operator_entry_expressions e) (operator_expressions es) ls h)) all
+      (λ ls h. sum_is names known true Inner (operator_expressions (e ∷ es)) ls
+      (sum-append (operator_entry_expressions e) (operator_expressions es) ls h)) all
 
   pub Writes-operator : (p : Operator) → Each (OperatorEntryFits names) p.terms →
       Writes false true (operator_text names p) (IsSum (declared names) true (IsNested (declared names) true (suc depth)) (operator_expression p))

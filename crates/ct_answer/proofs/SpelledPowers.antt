@@ -74,14 +74,14 @@ module _ (names : List Naming) (known : IsAlgebra names) (operators : Bool) (InP
   Writes-lettered w k within word =
       let text : List ℕ = (naming_at names k).text in
       let first = Writes-joined false true false w (91 ∷ []) (one (lexeme.Word w)) (one (lexeme.Sign 91)) (Writes-word w word)
-              (Writes-sign 91 open_bracket_is_plain) in
+      (Writes-sign 91 open_bracket_is_plain) in
       let second = Writes-joined false false true (w ++ 91 ∷ []) text (one (lexeme.Word w) ▸ one (lexeme.Sign 91)) (one (lexeme.Word text)) first
-              (Writes-word text (is_word names known k within)) in
+      (Writes-word text (is_word names known k within)) in
       let third = Writes-joined false true false ((w ++ 91 ∷ []) ++ text) (93 ∷ [])
       (one (lexeme.Word w) ▸ one (lexeme.Sign 91) ▸ one (lexeme.Word text)) (one (lexeme.Sign 93)) second
       (Writes-sign 93 close_bracket_is_plain) in
       Writes-text false false (((w ++ 91 ∷ []) ++ text) ++ 93 ∷ []) ((w ++ 91 ∷ text) ++ 93 ∷ []) (symbol w text)
-          (ap (λ (t : List ℕ). t ++ 93 ∷ []) (append_assoc w (91 ∷ []) text)) third
+      (ap (λ (t : List ℕ). t ++ 93 ∷ []) (append_assoc w (91 ∷ []) text)) third
 
   Writes-symbol : (k : ℕ) → k < length names → IsTrue operators → (naming_at names k).action ≢ actions.Still →
       Writes false false (symbol_text (naming_at names k)) (Atom (e.Symbol k))
@@ -91,18 +91,18 @@ module _ (names : List Naming) (known : IsAlgebra names) (operators : Bool) (InP
           → Writes false false (letter a ++ 91 ∷ (naming_at names k).text ++ 93 ∷ []) (Atom (e.Symbol k))
       by actions.Shift acts moves =
           Writes-as false false _ (symbol (codes "S") (naming_at names k).text) (Atom (e.Symbol k))
-              (λ ls h. IsAtom.shift (naming_at names k).text k allowed acts refl h)
+          (λ ls h. IsAtom.shift (naming_at names k).text k allowed acts refl h)
           (Writes-lettered (codes "S") k within (refl, refl))
       by actions.Derive acts moves =
           Writes-as false false _ (symbol (codes "D") (naming_at names k).text) (Atom (e.Symbol k))
-              (λ ls h. IsAtom.derivation (naming_at names k).text k allowed acts refl h)
+          (λ ls h. IsAtom.derivation (naming_at names k).text k allowed acts refl h)
           (Writes-lettered (codes "D") k within (refl, refl))
       by actions.Still acts moves = absurd (moves refl)
 
   Writes-name : (k : ℕ) → k < length names → Writes false true (name_text (naming_at names k)) (Atom (e.Name k))
   Writes-name k within =
       Writes-as false true _ (one (lexeme.Word (naming_at names k).text)) (Atom (e.Name k))
-          (λ ls h. IsAtom.variable (naming_at names k).text k (is_variable names known k within) refl h)
+      (λ ls h. IsAtom.variable (naming_at names k).text k (is_variable names known k within) refl h)
       (Writes-word (naming_at names k).text (is_word names known k within))
 
   Writes-base : (p : Power) → PowerFits names operators p → Writes false true (base_text names p) (Atom (base_expression p))
@@ -110,7 +110,7 @@ module _ (names : List Naming) (known : IsAlgebra names) (operators : Bool) (InP
     where
       by : (is_symbol : Bool) → p.is_symbol ≡ is_symbol
           → Writes false true (cond is_symbol (symbol_text (naming_at names p.name)) (name_text (naming_at names p.name)))
-              (Atom (cond is_symbol (e.Symbol p.name) (e.Name p.name)))
+          (Atom (cond is_symbol (e.Symbol p.name) (e.Name p.name)))
       by true is = let acts = fits.acting is in Writes-before false _ _ (Writes-symbol p.name fits.named acts.0 acts.1)
       by false is = Writes-name p.name fits.named
 
@@ -127,15 +127,15 @@ module _ (names : List Naming) (known : IsAlgebra names) (operators : Bool) (InP
       by false =
           let low = fits.low in
           let first = Writes-joined false true false (base_text names p) (94 ∷ []) (Atom (base_expression p)) (one (lexeme.Sign 94)) base
-                  (Writes-sign 94 caret_is_plain) in
+          (Writes-sign 94 caret_is_plain) in
           let exponent : Writes false true (fmt.decimal p.exponent) (number largest_degree p.exponent) =
           Writes-as false true _ (one (lexeme.Number p.exponent)) (number largest_degree p.exponent) (λ ls h. (low, h))
-              (Writes-number p.exponent (omega (arith, low))) in
+          (Writes-number p.exponent (omega (arith, low))) in
           let all = Writes-joined false false true (base_text names p ++ 94 ∷ []) (fmt.decimal p.exponent)
           (Atom (base_expression p) ▸ one (lexeme.Sign 94)) (number largest_degree p.exponent) first exponent in
           Writes-text false true _ _ _ (append_assoc (base_text names p) (94 ∷ []) (fmt.decimal p.exponent))
           (Writes-as false true _ (Atom (base_expression p) ▸ one (lexeme.Sign 94) ▸ number largest_degree p.exponent) _
-              (λ ls h. IsFactor.power (base_expression p) p.exponent refl h) all)
+          (λ ls h. IsFactor.power (base_expression p) p.exponent refl h) all)
 
   -- ---- products
 
@@ -144,14 +144,14 @@ module _ (names : List Naming) (known : IsAlgebra names) (operators : Bool) (InP
   Writes-later [] fits = Writes-nothing true
   Writes-later (p ∷ ps) fits =
       let first = Writes-joined true false true (42 ∷ []) (power_text names p) (one (lexeme.Sign 42)) (Factor (power_expression p))
-              (Writes-sign 42 star_is_plain) (Writes-power p fits.0) in
+      (Writes-sign 42 star_is_plain) (Writes-power p fits.0) in
       Writes-joined true true true (42 ∷ power_text names p) (later_powers names ps) (MoreFactor (power_expression p))
-          (each MoreFactor (power_expressions ps)) first (Writes-later ps fits.1)
+      (each MoreFactor (power_expressions ps)) first (Writes-later ps fits.1)
 
   Writes-whole_number : (n : ℕ) → n ≤ largest_norm → Writes false true (fmt.decimal n) (Factor (e.Whole (pos n)))
   Writes-whole_number n small =
       Writes-as false true _ (one (lexeme.Number n)) (Factor (e.Whole (pos n))) (λ ls h. IsFactor.plain (IsAtom.whole n refl (small, h)))
-          (Writes-number n (omega (arith, small)))
+      (Writes-number n (omega (arith, small)))
 
   -- a product of its factors
   pub term_from : (first : Expr) (more : List Expr) (P : List ℕ) (b e : Bool) → Writes b e P (Factor first ▸ each MoreFactor more) →
@@ -161,7 +161,7 @@ module _ (names : List Naming) (known : IsAlgebra names) (operators : Bool) (InP
   pub Writes-number_alone : (n : ℕ) → n ≤ largest_norm → Writes false true (fmt.decimal n) (ATerm (product_of (e.Whole (pos n) ∷ [])))
   Writes-number_alone n small =
       term_from (e.Whole (pos n)) [] _ false true
-          (Writes-as false true _ (Factor (e.Whole (pos n))) _ (λ ls h. to_nothing h) (Writes-whole_number n small))
+      (Writes-as false true _ (Factor (e.Whole (pos n))) _ (λ ls h. to_nothing h) (Writes-whole_number n small))
 
   pub Writes-term : (c : ℤ) (ps : List Power) → unsigned_abs c ≤ largest_norm → Each (PowerFits names operators) ps →
       Writes false true (term_text names c ps) (ATerm (term_expression (unsigned_abs c) ps))

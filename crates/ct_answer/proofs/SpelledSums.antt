@@ -32,11 +32,11 @@ each-append a (x ∷ xs) ys ls h =
 Writes-between : (s : ℕ) → Writes true false (s ∷ []) (one (lexeme.Sign s)) → Writes true false (32 ∷ s ∷ 32 ∷ []) (one (lexeme.Sign s))
 Writes-between s sign =
     let first = Writes-joined true true false (32 ∷ []) (s ∷ []) nothing (one (lexeme.Sign s))
-            (Writes-before true (32 ∷ []) nothing Writes-blank) sign in
+    (Writes-before true (32 ∷ []) nothing Writes-blank) sign in
     let all = Writes-joined true true false (32 ∷ s ∷ []) (32 ∷ []) (nothing ▸ one (lexeme.Sign s)) nothing
-            (Writes-before true (32 ∷ s ∷ []) _ first) Writes-blank in
+    (Writes-before true (32 ∷ s ∷ []) _ first) Writes-blank in
     Writes-as true false (32 ∷ s ∷ 32 ∷ []) (nothing ▸ one (lexeme.Sign s) ▸ nothing) (one (lexeme.Sign s))
-        (λ ls h. nothing_joined (joined_nothing h)) all
+    (λ ls h. nothing_joined (joined_nothing h)) all
 
 abbrev pub sign_of : Bool → ℕ
 sign_of negative = cond negative minus plus
@@ -93,7 +93,7 @@ module _ (names : List Naming) (known : IsAlgebra names) (operators : Bool) wher
     Writes-more_entries [] fits = Writes-nothing true
     Writes-more_entries (e ∷ es) fits =
         Writes-joined true true true (entry_text names false e) (flat_map (entry_text names false) es) (MoreTerm (entry_expression e))
-            (each MoreTerm (entry_expressions es))
+        (each MoreTerm (entry_expressions es))
         (Writes-more_term e.1 (names_in e.0) fits.0.small fits.0.powers) (Writes-more_entries es fits.1)
 
     pub Writes-first_entries : (e : Mono × ℤ) (es : List (Mono × ℤ)) → Each (EntryFits names operators) (e ∷ es) →
@@ -101,7 +101,7 @@ module _ (names : List Naming) (known : IsAlgebra names) (operators : Bool) wher
     unfolding entries_text
     Writes-first_entries e es fits =
         Writes-joined false true true (entry_text names true e) (flat_map (entry_text names false) es) (First (entry_expression e))
-            (each MoreTerm (entry_expressions es))
+        (each MoreTerm (entry_expressions es))
         (Writes-first_term e.1 (names_in e.0) fits.0.small fits.0.powers) (Writes-more_entries es fits.1)
 
     pub Writes-later_entries : (es : List (Mono × ℤ)) → Each (EntryFits names operators) es →
@@ -140,4 +140,4 @@ module _ (names : List Naming) (known : IsAlgebra names) (operators : Bool) wher
         by (e ∷ es) fits =
             let some : (suc (length es) == 0) ≡ false = ne_eqb (suc (length es)) 0 (λ none. omega arith) in
             rw some (Writes-as false true _ (Sum (entry_expressions (e ∷ es))) _ (λ ls h. sum_is (entry_expressions (e ∷ es)) ls h)
-                (Writes-first_entries e es fits))
+            (Writes-first_entries e es fits))

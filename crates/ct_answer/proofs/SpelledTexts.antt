@@ -19,5 +19,5 @@ pub operator_is_spelled : (names : List Naming) (p : Operator) → IsAlgebra nam
     IsSpelled names true (operator_expression p) (operator_text names p)
 operator_is_spelled names p known fits =
     let all = Writes-whole false true (operator_text names p) (IsExpression (declared names) true (operator_expression p))
-            (Writes-operator names known 63 p (operator_entries_fit names p fits)) in
+    (Writes-operator names known 63 p (operator_entries_fit names p fits)) in
     record { whole = all.no_bad; stands = all.stands }

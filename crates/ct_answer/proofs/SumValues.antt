@@ -90,10 +90,10 @@ module _ (a : Name → Action) where
       → joined a (Some (over_one so_far)) negative (over_one x) ≡ Ok (over_one (sum_of_operators so_far w))
   joined_value so_far true x w sign few small =
       minus_over_one a so_far x _ (omega (arith, small)) (omega (arith, small)) (difference_fits so_far x few small)
-          ∙ ap (λ (y : Operator). Ok (over_one (sum_of_operators so_far y))) sign
+      ∙ ap (λ (y : Operator). Ok (over_one (sum_of_operators so_far y))) sign
   joined_value so_far false x w sign few small =
       plus_over_one a so_far x _ (omega (arith, small)) (omega (arith, small)) (sum_fits so_far x few small)
-          ∙ ap (λ (y : Operator). Ok (over_one (sum_of_operators so_far y))) sign
+      ∙ ap (λ (y : Operator). Ok (over_one (sum_of_operators so_far y))) sign
 
   first_value : (negative : Bool) (x w : Operator) → with_sign negative x ≡ w → term_count x ≤ most_terms → term_norm x ≤ largest_norm →
       joined a None negative (over_one x) ≡ Ok (over_one w)
@@ -119,7 +119,7 @@ module _ (a : Name → Action) where
     goes_on =
         ap (λ (c : Checked Value). c >>= (λ x. joined a None t.0 x >>= (λ more. sum_from a (Some more) rest))) known.evaluates
         ∙ ap (λ (c : Checked Value). c >>= (λ more. sum_from a (Some more) rest))
-            (first_value t.0 known.value w known.sign (omega (arith, few, known.few)) (omega (arith, small, known.small)));
+        (first_value t.0 known.value w known.sign (omega (arith, few, known.few)) (omega (arith, small, known.small)));
     few = known.few_signed;
     small = known.small_signed;
   }
@@ -202,7 +202,7 @@ module _ (a : Name → Action) where
   zero_value =
       fraction_of-Whole a (pos 0)
       ∙ ap (λ (c : Polynomial). Ok (over_one (term_of unit c)))
-          (number_is (pos 0) ∙ hom_zero {G = int_group} {H = polys.group} (record { sums = term-sum unit }))
+      (number_is (pos 0) ∙ hom_zero {G = int_group} {H = polys.group} (record { sums = term-sum unit }))
       ∙ ap (λ (x : Operator). Ok (over_one x)) (term_of-zero unit)
 
   pub sum_value : (ts : List Term) (w : Operator) (k s : ℕ) → Begins ts w k s → k ≤ most_terms → s ≤ largest_norm →

@@ -37,22 +37,22 @@ module _ (a : Name → Action) where
   unfolding product_from
   one_before x f fs value same =
       ap (λ (c : Checked Value). c >>=
-          (λ y. checked_times a (over_one (term_of unit (term unit (pos 1)))) y >>= (λ more. product_from a (Some more) fs))) value
+      (λ y. checked_times a (over_one (term_of unit (term unit (pos 1)))) y >>= (λ more. product_from a (Some more) fs))) value
       ∙ ap (λ (c : Checked Value). c >>= (λ more. product_from a (Some more) fs)) (times_over_one a _ _ _ same)
       ∙ sym (begun f x fs value)
 
   one_before_power : (p : Power) (fs : List (Checked Value)) → total (monomial_of p) ≤ largest_degree
       → product_from a (Some (over_one (term_of unit (term unit (pos 1))))) (fraction_of a (power_expression p) ∷ fs) ≡
-          product_from a None (fraction_of a (power_expression p) ∷ fs)
+      product_from a None (fraction_of a (power_expression p) ∷ fs)
   one_before_power p fs low = by p.is_symbol refl
     where
       by : (is_symbol : Bool) → p.is_symbol ≡ is_symbol
           → product_from a (Some (over_one (term_of unit (term unit (pos 1))))) (fraction_of a (power_expression p) ∷ fs) ≡
-              product_from a None (fraction_of a (power_expression p) ∷ fs)
+          product_from a None (fraction_of a (power_expression p) ∷ fs)
       by false is =
           one_before (term_of unit (term (monomial_of p) (pos 1))) (power_expression p) fs (value-name a p is low)
           (more_names a unit (monomial_of p) (pos 1) tt (omega arith) (omega (arith, total_unit, low))
-              ∙ ap (λ (k : Mono). Ok (term_of unit (term k (pos 1)))) (unit_before (monomial_of p)))
+          ∙ ap (λ (k : Mono). Ok (term_of unit (term k (pos 1)))) (unit_before (monomial_of p)))
       by true is =
           one_before (term_of (monomial_of p) polys.one) (power_expression p) fs (value-symbol a p is low)
           (ap (λ (c : Polynomial). checked_product a (term_of unit c) (term_of (monomial_of p) polys.one)) (sym one_is_term)
@@ -65,7 +65,7 @@ module _ (a : Name → Action) where
   -- a number and powers, from the number on
   from_number : (n : ℕ) (p : Power) (ps : List Power) → total (monomial_of p) ≤ largest_degree
       → fraction_of a (term_expression n (p ∷ ps)) ≡ product_from a (Some (over_one (term_of unit (term unit (pos n)))))
-          (fractions a (power_expressions (p ∷ ps)))
+      (fractions a (power_expressions (p ∷ ps)))
   from_number n p ps low = by (n == 1) refl
     where
       by : (is_one : Bool) → (n == 1) ≡ is_one
@@ -89,14 +89,14 @@ module _ (a : Name → Action) where
   both_value : (n : ℕ) (ps qs : List Power) → 0 < n → n ≤ largest_norm → Each (λ p. p.is_symbol ≡ false) ps → Each (λ p. p.is_symbol ≡ true) qs
       → total (all_of ps) ≤ largest_degree → total (all_of qs) ≤ largest_degree
       → product_from a (Some (over_one (term_of unit (term unit (pos n))))) (fractions a (power_expressions (ps ++ qs))) ≡
-          Ok (over_one (term_of (all_of qs) (term (all_of ps) (pos n))))
+      Ok (over_one (term_of (all_of qs) (term (all_of ps) (pos n))))
   both_value n ps qs some small names symbols low low_order =
       ap (product_from a (Some (over_one (term_of unit (term unit (pos n)))))) (values-append ps qs)
       ∙ names_value a ps unit (pos n) (fractions a (power_expressions qs)) names (positive_coef n some) small (omega (arith, total_unit, low))
       ∙ ap (λ (k : Mono). product_from a (Some (over_one (term_of unit (term k (pos n))))) (fractions a (power_expressions qs)))
-          (unit_before (all_of ps))
+      (unit_before (all_of ps))
       ∙ symbols_value a qs unit (term (all_of ps) (pos n)) symbols (small_term (all_of ps) (pos n) (positive_coef n some) small low)
-          (omega (arith, total_unit, low_order))
+      (omega (arith, total_unit, low_order))
       ∙ ap (λ (k : Mono). Ok (over_one (term_of k (term (all_of ps) (pos n))))) (unit_before (all_of qs))
 
   pub term_value : (n : ℕ) (ps qs : List Power) → 0 < n → n ≤ largest_norm → Each (λ p. p.is_symbol ≡ false) ps → Each (λ p. p.is_symbol ≡ true) qs
@@ -106,10 +106,10 @@ module _ (a : Name → Action) where
   term_value n [] [] some small names symbols low low_order = whole_value n
   term_value n [] (q ∷ qs) some small names symbols low low_order =
       from_number n q qs (omega (arith, total-· (monomial_of q) (all_of qs), low_order))
-          ∙ both_value n [] (q ∷ qs) some small names symbols low low_order
+      ∙ both_value n [] (q ∷ qs) some small names symbols low low_order
   term_value n (p ∷ ps) qs some small names symbols low low_order =
       from_number n p (ps ++ qs) (omega (arith, total-· (monomial_of p) (all_of ps), low))
-          ∙ both_value n (p ∷ ps) qs some small names symbols low low_order
+      ∙ both_value n (p ∷ ps) qs some small names symbols low low_order
 
   -- a polynomial before powers of symbols
   pub before_symbols_value : (x : Expr) (c : Polynomial) (qs : List Power) → fraction_of a x ≡ Ok (over_one (term_of unit c)) → IsSmall c →

@@ -29,8 +29,20 @@ pub room_for_sum :
 unfolding plus
 room_for_sum {ps} {qs} {out} {p} {q} {a} {b} can m =
     sum_fits a.coef b.coef
-    (omega (arith, can.few, terms.has_room monomials polys.group entry refl refl m count (λ f g. (sums_within f g).0), entries count ps, entries count qs))
-    (omega (arith, can.small, terms.has_room monomials polys.group entry refl refl m norm (λ f g. (sums_within f g).1), entries norm ps, entries norm qs))
+    (omega (
+      arith,
+      can.few,
+      terms.has_room monomials polys.group entry refl refl m count (λ f g. (sums_within f g).0),
+      entries count ps,
+      entries count qs,
+    ))
+    (omega (
+      arith,
+      can.small,
+      terms.has_room monomials polys.group entry refl refl m norm (λ f g. (sums_within f g).1),
+      entries norm ps,
+      entries norm qs,
+    ))
   where
     entries : (size : Polynomial → ℕ) (ts : List OpTerm) → sum_by (λ e. size e.1) (op_entries ts) ≡ terms.measure monomials polys.group entry size ts
     entries size ts = terms.sum_by-entries monomials polys.group entry (λ e. size e.1) ts

@@ -130,7 +130,8 @@ module _ {V : Type 0} (D : Name → V → V) (commute : (i j : Name) (v : V) →
   below-from zero small m v = ap (λ w. power D w v) (from_all m)
   below-from (suc n) small m v =
       let here : place (name_with n) ≡ n = place-name_with n (omega arith) in
-      ap (power_below n m) (sym (subst (λ k. power D (from k m) v ≡ times_over (exp m k) (D (name_with n)) (power D (from (suc k) m) v)) here (power-from (name_with n) m v)))
+      ap (power_below n m) (sym (subst (λ k. power D (from k m) v ≡ times_over (exp m k) (D (name_with n)) (power D (from (suc k) m) v)) here
+      (power-from (name_with n) m v)))
       ∙ below-from n (omega arith) m v
 
   pub power-is : (m : Mono) (v : V) → power D m v ≡ power_below number_of_names m v

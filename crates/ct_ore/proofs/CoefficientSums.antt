@@ -53,7 +53,8 @@ sum_of_coefficient m c =
   where
     on_single :
         (n : Mono) (x : ℤ) →
-        lift monomials int_group operator_group (λ n x. term_of m (term n x)) (single monomials int_group n x) ≡ term_of m (single monomials int_group n x)
+        lift monomials int_group operator_group (λ n x. term_of m (term n x)) (single monomials int_group n x) ≡
+        term_of m (single monomials int_group n x)
     on_single n x =
         lift-single monomials int_group operator_group _ (term_additive m) n x
         ∙ ap (term_of m) (term_is n x)

@@ -75,9 +75,22 @@ pub product_of_sorted :
     IsSorted (expanded a e.0 ts) vs → IsSum (multiplied_by e.1.terms vs) ws → IsSum (product_terms a (e ∷ []) ts) ws
 product_of_sorted a e ts {vs} {ws} made sum =
     let whole : product_terms a (e ∷ []) ts ≡ multiplied_by e.1.terms (expanded a e.0 ts) = append-nil _ in
-    sum_of_same (multiplied_by-value a e.1 vs ∙ ap (multiple a e.1) made.sum.value ∙ sym (multiplied_by-value a e.1 (expanded a e.0 ts)) ∙ ap sum_of_parts (sym whole))
-    (omega (arith, ap length whole, length_scaled e.1.terms vs, length_scaled e.1.terms (expanded a e.0 ts), mul-le-mul_left (length e.1.terms) made.sum.few))
-    (omega (arith, ap size_of whole, size_scaled e.1.terms vs, size_scaled e.1.terms (expanded a e.0 ts), mul-le-mul_left (norm_of e.1.terms) made.sum.small))
+    sum_of_same (multiplied_by-value a e.1 vs ∙ ap (multiple a e.1) made.sum.value ∙ sym (multiplied_by-value a e.1 (expanded a e.0 ts))
+    ∙ ap sum_of_parts (sym whole))
+    (omega (
+      arith,
+      ap length whole,
+      length_scaled e.1.terms vs,
+      length_scaled e.1.terms (expanded a e.0 ts),
+      mul-le-mul_left (length e.1.terms) made.sum.few,
+    ))
+    (omega (
+      arith,
+      ap size_of whole,
+      size_scaled e.1.terms vs,
+      size_scaled e.1.terms (expanded a e.0 ts),
+      mul-le-mul_left (norm_of e.1.terms) made.sum.small,
+    ))
     sum
 
 pub product_parts :

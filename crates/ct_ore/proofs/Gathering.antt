@@ -57,7 +57,8 @@ pub run_of :
     run ≡ map without_symbols front → IsRun m ts run
 run_of {m} {ts} {front} {run} {n} l first made =
     run_ends (drop n ts)
-    (sym (take-append-drop n ts) ∙ ap (λ us. us ++ drop n ts) (sym (ap (λ us. row_of m (entries us)) (made ∙ ap (map without_symbols) first) ∙ run_row m (take n ts) l.same)))
+    (sym (take-append-drop n ts)
+    ∙ ap (λ us. us ++ drop n ts) (sym (ap (λ us. row_of m (entries us)) (made ∙ ap (map without_symbols) first) ∙ run_row m (take n ts) l.same)))
     l.other
 
 -- ---- where the symbols change
@@ -138,8 +139,10 @@ next_of [] t rest more run h left head cut = absurd (no_head (sym head ∙ left)
     no_head e = cc
 next_of (e ∷ es) t rest more run h left head cut =
     let symbols : t.symbols ≡ e.0 = first_symbols e (all_terms es) t more h.0 (sym head ∙ left) in
-    let same : row_of t.symbols e.1.terms ++ all_terms es ≡ row_of t.symbols (entries run) ++ drop (length run) rest = ap (λ m. row_of m e.1.terms ++ all_terms es) symbols ∙ sym left ∙ cut.whole in
-    let cuts = same_cut t.symbols e.1.terms (entries run) (all_terms es) (drop (length run) rest) same (subst (λ m. StartsOther m (all_terms es)) (sym symbols) (later_other e.0 es h.1 h.2)) cut.other in
+    let same : row_of t.symbols e.1.terms ++ all_terms es ≡ row_of t.symbols (entries run) ++ drop (length run) rest =
+    ap (λ m. row_of m e.1.terms ++ all_terms es) symbols ∙ sym left ∙ cut.whole in
+    let cuts = same_cut t.symbols e.1.terms (entries run) (all_terms es) (drop (length run) rest) same
+    (subst (λ m. StartsOther m (all_terms es)) (sym symbols) (later_other e.0 es h.1 h.2)) cut.other in
     record {
       coefficient = e.1;
       after = es;
@@ -159,7 +162,8 @@ next_term {ts} {out} {rest} {more} {t} {run} g head cut =
 pub rest_written : {ts : List CoefficientTerm} {out : List OpTerm} {rest : List CoefficientTerm} → IsGathering ts out rest → IsWritten rest
 rest_written {ts} {out} {rest} g =
     subst IsWritten (sym g.left)
-    (all_written g.later (back_canonical monomials polys.group (op_entries out) g.later (subst (IsCanonical monomials polys.group) g.whole (sum_of_parts ts).canonical)))
+    (all_written g.later (back_canonical monomials polys.group (op_entries out) g.later
+    (subst (IsCanonical monomials polys.group) g.whole (sum_of_parts ts).canonical)))
 
 -- ---- steps of the loop
 
@@ -181,8 +185,23 @@ pub run_fits :
 run_fits {ts} {out} {rest} {more} {t} {run} fits g head cut =
     let next = next_term g head cut in (
       subst (IsCanonical monomials int_group) (sym next.run_is) next.coefficient.canonical,
-      omega (arith, fits.few, g.few, ap length cut.whole, length-append (row_of t.symbols (entries run)) (drop (length run) rest), length-row_of t.symbols (entries run), length-entries run),
-      omega (arith, fits.small, g.small, ap size_of cut.whole, sum_by-append (λ (u : CoefficientTerm). nat_abs u.number) (row_of t.symbols (entries run)) (drop (length run) rest), size_of-row t.symbols run),
+      omega (
+        arith,
+        fits.few,
+        g.few,
+        ap length cut.whole,
+        length-append (row_of t.symbols (entries run)) (drop (length run) rest),
+        length-row_of t.symbols (entries run),
+        length-entries run,
+      ),
+      omega (
+        arith,
+        fits.small,
+        g.small,
+        ap size_of cut.whole,
+        sum_by-append (λ (u : CoefficientTerm). nat_abs u.number) (row_of t.symbols (entries run)) (drop (length run) rest),
+        size_of-row t.symbols run,
+      ),
     )
 
 pub gathering_step :
@@ -196,10 +215,17 @@ gathering_step {ts} {out} {out'} {rest} {rest'} {more} {t} {run} o head cut symb
     subst₂ (IsGathering ts) (sym pushed) (sym dropped) (record {
       later = next.after;
       whole = g.whole ∙ ap (λ es. op_entries out ++ es) (next.first ∙ ap (λ e. e ∷ next.after) (sym term))
-          ∙ sym (append_assoc (op_entries out) ((o.mono, o.coef) ∷ []) next.after) ∙ ap (λ es. es ++ next.after) (sym (op_entries-append out (o ∷ [])));
+          ∙ sym (append_assoc (op_entries out) ((o.mono, o.coef) ∷ []) next.after)
+          ∙ ap (λ es. es ++ next.after) (sym (op_entries-append out (o ∷ [])));
       left = next.rest_is;
       few = omega (arith, g.few, ap length cut.whole, length-append (row_of t.symbols (entries run)) (drop (length run) rest));
-      small = omega (arith, g.small, ap size_of cut.whole, sum_by-append (λ (u : CoefficientTerm). nat_abs u.number) (row_of t.symbols (entries run)) (drop (length run) rest));
+      small = omega (
+        arith,
+        g.small,
+        ap size_of cut.whole,
+        sum_by-append (λ (u : CoefficientTerm). nat_abs u.number) (row_of t.symbols (entries run))
+            (drop (length run) rest),
+      );
     })
 
 pub gathering_end :

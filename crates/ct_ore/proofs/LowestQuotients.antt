@@ -16,7 +16,8 @@ times_terms :
     (x d : ℕ) (es : List (Mono × Polynomial)) → DividesTerms d es → DividesTerms x (map (entry_over d) es) → DividesTerms (x * d) es
 times_terms x d [] divides all = tt
 times_terms x d (e ∷ es) divides all = (
-  times_each x unit (pos d) e.1.terms e.1.canonical (each_divides d e.1.terms divides.0) (subst (DividesAll x) (quotient_terms d e.1 divides.0) all.0),
+  times_each x unit (pos d) e.1.terms e.1.canonical (each_divides d e.1.terms divides.0)
+      (subst (DividesAll x) (quotient_terms d e.1 divides.0) all.0),
   times_terms x d es divides.1 all.1,
 )
 

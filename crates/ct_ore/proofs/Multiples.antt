@@ -31,11 +31,29 @@ pub scale_left :
     {us : List (Mono × ℤ)} {ts : List CoefficientTerm} (xs ys : List (Mono × ℤ)) → us ≡ xs ++ ys → CanScale us ts →
     CanScale xs ts × CanScale ys ts
 scale_left {us} {ts} xs ys whole can =
-    let rooms = each_parts (λ n x. total n + can.names ≤ largest_degree) xs ys (subst (EachTerm (λ n x. total n + can.names ≤ largest_degree)) whole can.rooms) in
+    let rooms = each_parts (λ n x. total n + can.names ≤ largest_degree) xs ys
+    (subst (EachTerm (λ n x. total n + can.names ≤ largest_degree)) whole can.rooms) in
     let falls : IsCanonical monomials int_group (xs ++ ys) = subst (IsCanonical monomials int_group) whole can.falls in
-    let both : norm_of us * size_of ts ≡ (norm_of xs + norm_of ys) * size_of ts = ap (λ n. n * size_of ts) (ap norm_of whole ∙ sum_by-append (λ (u : Mono × ℤ). nat_abs u.1) xs ys) in (
-      record { names = can.names; order = can.order; rooms = rooms.0; falls = front_canonical monomials int_group xs ys falls; each = can.each; written = can.written; small = omega (arith, can.small, both) },
-      record { names = can.names; order = can.order; rooms = rooms.1; falls = back_canonical monomials int_group xs ys falls; each = can.each; written = can.written; small = omega (arith, can.small, both) },
+    let both : norm_of us * size_of ts ≡ (norm_of xs + norm_of ys) * size_of ts =
+    ap (λ n. n * size_of ts) (ap norm_of whole ∙ sum_by-append (λ (u : Mono × ℤ). nat_abs u.1) xs ys) in (
+      record {
+        names = can.names;
+        order = can.order;
+        rooms = rooms.0;
+        falls = front_canonical monomials int_group xs ys falls;
+        each = can.each;
+        written = can.written;
+        small = omega (arith, can.small, both);
+      },
+      record {
+        names = can.names;
+        order = can.order;
+        rooms = rooms.1;
+        falls = back_canonical monomials int_group xs ys falls;
+        each = can.each;
+        written = can.written;
+        small = omega (arith, can.small, both);
+      },
     )
 
 pub scale_right :
@@ -43,10 +61,28 @@ pub scale_right :
     CanScale us xs × CanScale us ys
 scale_right {us} {ts} xs ys whole can =
     let each = within_parts can.order can.names xs ys (subst (λ us. EachWithin can.order can.names us) whole can.each) in
-    let written : IsCanonical by_parts int_group (keyed xs ++ keyed ys) = subst (IsCanonical by_parts int_group) (ap keyed whole ∙ keyed-append xs ys) can.written in
-    let both : norm_of us * size_of ts ≡ norm_of us * (size_of xs + size_of ys) = ap (λ n. norm_of us * n) (ap size_of whole ∙ sum_by-append size xs ys) in (
-      record { names = can.names; order = can.order; rooms = can.rooms; falls = can.falls; each = each.0; written = front_canonical by_parts int_group (keyed xs) (keyed ys) written; small = omega (arith, can.small, both) },
-      record { names = can.names; order = can.order; rooms = can.rooms; falls = can.falls; each = each.1; written = back_canonical by_parts int_group (keyed xs) (keyed ys) written; small = omega (arith, can.small, both) },
+    let written : IsCanonical by_parts int_group (keyed xs ++ keyed ys) =
+    subst (IsCanonical by_parts int_group) (ap keyed whole ∙ keyed-append xs ys) can.written in
+    let both : norm_of us * size_of ts ≡ norm_of us * (size_of xs + size_of ys) =
+    ap (λ n. norm_of us * n) (ap size_of whole ∙ sum_by-append size xs ys) in (
+      record {
+        names = can.names;
+        order = can.order;
+        rooms = can.rooms;
+        falls = can.falls;
+        each = each.0;
+        written = front_canonical by_parts int_group (keyed xs) (keyed ys) written;
+        small = omega (arith, can.small, both);
+      },
+      record {
+        names = can.names;
+        order = can.order;
+        rooms = can.rooms;
+        falls = can.falls;
+        each = each.1;
+        written = back_canonical by_parts int_group (keyed xs) (keyed ys) written;
+        small = omega (arith, can.small, both);
+      },
     )
 
 -- the first term of each
@@ -56,7 +92,8 @@ pub scale_heads :
 scale_heads {us} {vs} {ts} {ws} u t eu et can =
     let room = (subst (EachTerm (λ n x. total n + can.names ≤ largest_degree)) eu can.rooms).0 in
     let each = (subst (λ us. EachWithin can.order can.names us) et can.each).0 in
-    let both : norm_of us * size_of ts ≡ (nat_abs u.1 + norm_of vs) * (nat_abs t.number + size_of ws) = ap₂ ◌*◌ (ap norm_of eu ∙ sum_by-cons (λ (u : Mono × ℤ). nat_abs u.1) u vs) (ap size_of et ∙ sum_by-cons size t ws) in
+    let both : norm_of us * size_of ts ≡ (nat_abs u.1 + norm_of vs) * (nat_abs t.number + size_of ws) =
+    ap₂ ◌*◌ (ap norm_of eu ∙ sum_by-cons (λ (u : Mono × ℤ). nat_abs u.1) u vs) (ap size_of et ∙ sum_by-cons size t ws) in
     (omega (arith, room, each.names), omega (arith, can.small, both))
 
 -- ---- order
@@ -88,7 +125,9 @@ column_below :
     AllBelow by_parts int_group (t.symbols, m · t.names) (keyed (multiplied_by us (t ∷ [])))
 column_below t m [] h = tt
 column_below t m (u ∷ us) h =
-    let same : pair_cmp (t.symbols, u.0 · t.names) (t.symbols, m · t.names) ≡ mono_cmp u.0 m = pair_cmp_is (t.symbols, u.0 · t.names) (t.symbols, m · t.names) ∙ ap (λ r. ordering_then r (mono_cmp (u.0 · t.names) (m · t.names))) (mono_same t.symbols) ∙ mono_ordered.shifted t.names u.0 m in
+    let same : pair_cmp (t.symbols, u.0 · t.names) (t.symbols, m · t.names) ≡ mono_cmp u.0 m =
+    pair_cmp_is (t.symbols, u.0 · t.names) (t.symbols, m · t.names)
+    ∙ ap (λ r. ordering_then r (mono_cmp (u.0 · t.names) (m · t.names))) (mono_same t.symbols) ∙ mono_ordered.shifted t.names u.0 m in
     (subst (λ o. T (is_less o)) (sym same) h.0, column_below t m us h.1)
 
 column_written :
@@ -158,7 +197,8 @@ pub merge_left :
     {us : List (Mono × ℤ)} {ts ls rs : List CoefficientTerm} (xs ys : List (Mono × ℤ)) → us ≡ xs ++ ys → CanScale us ts →
     IsSum (multiplied_by xs ts) ls → IsSum (multiplied_by ys ts) rs → CanMerge ls rs
 merge_left {us} {ts} {ls} {rs} xs ys whole can l r =
-    halves_small (multiplied_by us ts) (multiplied_by xs ts) (multiplied_by ys ts) ls rs (left_parts ts xs ys whole) (omega (arith, can.small, size_scaled us ts)) l r
+    halves_small (multiplied_by us ts) (multiplied_by xs ts) (multiplied_by ys ts) ls rs (left_parts ts xs ys whole)
+    (omega (arith, can.small, size_scaled us ts)) l r
 
 pub sum_of_left_halves :
     {us : List (Mono × ℤ)} (ts : List CoefficientTerm) {ls rs vs : List CoefficientTerm} (xs ys : List (Mono × ℤ)) → us ≡ xs ++ ys →
@@ -169,19 +209,35 @@ sum_of_left_halves {us} ts {ls} {rs} {vs} xs ys whole l r merged =
 module _ (us : List (Mono × ℤ)) {ts : List CoefficientTerm} (xs ys : List CoefficientTerm) (whole : ts ≡ xs ++ ys) where
   right_size : size_of (multiplied_by us xs ++ multiplied_by us ys) ≡ size_of (multiplied_by us ts)
   right_size =
-      omega (arith, sum_by-append size (multiplied_by us xs) (multiplied_by us ys), size_scaled us xs, size_scaled us ys, size_scaled us ts, ap (λ n. norm_of us * n) (ap size_of whole ∙ sum_by-append size xs ys))
+      omega (
+        arith,
+        sum_by-append size (multiplied_by us xs) (multiplied_by us ys),
+        size_scaled us xs,
+        size_scaled us ys,
+        size_scaled us ts,
+        ap (λ n. norm_of us * n) (ap size_of whole ∙ sum_by-append size xs ys),
+      )
 
   right_length : length (multiplied_by us xs ++ multiplied_by us ys) ≡ length (multiplied_by us ts)
   right_length =
-      omega (arith, length-append (multiplied_by us xs) (multiplied_by us ys), length_scaled us xs, length_scaled us ys, length_scaled us ts, ap (λ n. length us * n) (ap length whole ∙ length-append xs ys))
+      omega (
+        arith,
+        length-append (multiplied_by us xs) (multiplied_by us ys),
+        length_scaled us xs,
+        length_scaled us ys,
+        length_scaled us ts,
+        ap (λ n. length us * n) (ap length whole ∙ length-append xs ys),
+      )
 
   pub merge_right : {ls rs : List CoefficientTerm} → CanScale us ts → IsSum (multiplied_by us xs) ls → IsSum (multiplied_by us ys) rs → CanMerge ls rs
   merge_right {ls} {rs} can l r =
-      halves_small (multiplied_by us xs ++ multiplied_by us ys) (multiplied_by us xs) (multiplied_by us ys) ls rs refl (omega (arith, can.small, size_scaled us ts, right_size)) l r
+      halves_small (multiplied_by us xs ++ multiplied_by us ys) (multiplied_by us xs) (multiplied_by us ys) ls rs refl
+      (omega (arith, can.small, size_scaled us ts, right_size)) l r
 
   pub sum_of_right_halves :
       {ls rs vs : List CoefficientTerm} → IsSum (multiplied_by us xs) ls → IsSum (multiplied_by us ys) rs → IsMerged ls rs vs →
       IsSum (multiplied_by us ts) vs
   sum_of_right_halves {ls} {rs} {vs} l r merged =
-      sum_of_same (right_sum us xs ys ∙ ap (λ ws. sum_of_parts (multiplied_by us ws)) (sym whole)) (omega (arith, right_length)) (omega (arith, right_size))
+      sum_of_same (right_sum us xs ys ∙ ap (λ ws. sum_of_parts (multiplied_by us ws)) (sym whole)) (omega (arith, right_length))
+      (omega (arith, right_size))
       (sum_of_both (multiplied_by us xs ++ multiplied_by us ys) (multiplied_by us xs) (multiplied_by us ys) ls rs vs refl l r merged)

@@ -38,11 +38,13 @@ module _ (m : Mono) (c : Polynomial) (some : c ≢ polys.zero) where
 
   pub coefficient_degree-one : coefficient_degree (term_of m c) ≡ degree c
   unfolding coefficient_degree
-  coefficient_degree-one = let e : max (degree c) 0 ≡ degree c = omega arith in ap (λ (es : List (Mono × Polynomial)). greatest (map (λ (e : Mono × Polynomial). degree e.1) es)) terms ∙ e
+  coefficient_degree-one = let e : max (degree c) 0 ≡ degree c = omega arith in
+      ap (λ (es : List (Mono × Polynomial)). greatest (map (λ (e : Mono × Polynomial). degree e.1) es)) terms ∙ e
 
   pub order_of-one : order_of (term_of m c) ≡ total m
   unfolding order_of
-  order_of-one = let e : max (total m) 0 ≡ total m = omega arith in ap (λ (es : List (Mono × Polynomial)). greatest (map (λ (e : Mono × Polynomial). total e.0) es)) terms ∙ e
+  order_of-one = let e : max (total m) 0 ≡ total m = omega arith in
+      ap (λ (es : List (Mono × Polynomial)). greatest (map (λ (e : Mono × Polynomial). total e.0) es)) terms ∙ e
 
 pub total_unit : total unit ≡ 0
 unfolding total unit mono

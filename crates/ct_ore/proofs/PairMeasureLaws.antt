@@ -66,7 +66,11 @@ module _ (a : Name → Action) (p q : Operator) where
   pub none_of_zero : length p.terms * length q.terms ≡ 0 → None ≡ product_overflow a p q
   unfolding product_overflow
   none_of_zero none =
-      sym (ap (λ b. cond {A = Option Kind} b None (broken (ltb largest_degree (coefficient_degree p + coefficient_degree q)) Degree (broken (ltb largest_degree (order_of p + order_of q)) Degree (broken (ltb most_terms (product_count a p q)) Terms (broken (ltb largest_norm (product_norm a p q)) Number None))))) (eq-eqb (length p.terms * length q.terms) 0 none))
+      sym (ap (λ b. cond {A = Option Kind} b None
+      (broken (ltb largest_degree (coefficient_degree p + coefficient_degree q)) Degree
+      (broken (ltb largest_degree (order_of p + order_of q)) Degree
+      (broken (ltb most_terms (product_count a p q)) Terms (broken (ltb largest_norm (product_norm a p q)) Number None)))))
+      (eq-eqb (length p.terms * length q.terms) 0 none))
 
   module _ (some : length p.terms * length q.terms ≢ 0) where
     abbrev pub rest : Option Kind
@@ -81,18 +85,28 @@ module _ (a : Name → Action) (p q : Operator) where
     begin = ap (λ b. cond {A = Option Kind} b None rest) (ne_eqb (length p.terms * length q.terms) 0 some)
 
     pub by_degree : largest_degree < coefficient_degree p + coefficient_degree q → Some Degree ≡ product_overflow a p q
-    by_degree over = sym (begin ∙ ap (λ b. broken b Degree (broken (ltb largest_degree (order_of p + order_of q)) Degree (broken (ltb most_terms (product_count a p q)) Terms (broken (ltb largest_norm (product_norm a p q)) Number None)))) (lt-ltb _ _ over))
+    by_degree over = sym (begin
+        ∙ ap (λ b. broken b Degree
+        (broken (ltb largest_degree (order_of p + order_of q)) Degree
+        (broken (ltb most_terms (product_count a p q)) Terms (broken (ltb largest_norm (product_norm a p q)) Number None)))) (lt-ltb _ _ over))
 
     module _ (low : coefficient_degree p + coefficient_degree q ≤ largest_degree) where
-      first : product_overflow a p q ≡ broken (ltb largest_degree (order_of p + order_of q)) Degree (broken (ltb most_terms (product_count a p q)) Terms (broken (ltb largest_norm (product_norm a p q)) Number None))
-      first = begin ∙ ap (λ b. broken b Degree (broken (ltb largest_degree (order_of p + order_of q)) Degree (broken (ltb most_terms (product_count a p q)) Terms (broken (ltb largest_norm (product_norm a p q)) Number None)))) (le-ltb _ _ low)
+      first : product_overflow a p q ≡ broken (ltb largest_degree (order_of p + order_of q)) Degree
+          (broken (ltb most_terms (product_count a p q)) Terms (broken (ltb largest_norm (product_norm a p q)) Number None))
+      first = begin ∙ ap (λ b. broken b Degree
+          (broken (ltb largest_degree (order_of p + order_of q)) Degree
+          (broken (ltb most_terms (product_count a p q)) Terms (broken (ltb largest_norm (product_norm a p q)) Number None)))) (le-ltb _ _ low)
 
       pub by_order : largest_degree < order_of p + order_of q → Some Degree ≡ product_overflow a p q
-      by_order over = sym (first ∙ ap (λ b. broken b Degree (broken (ltb most_terms (product_count a p q)) Terms (broken (ltb largest_norm (product_norm a p q)) Number None))) (lt-ltb _ _ over))
+      by_order over = sym (first
+          ∙ ap (λ b. broken b Degree
+          (broken (ltb most_terms (product_count a p q)) Terms (broken (ltb largest_norm (product_norm a p q)) Number None))) (lt-ltb _ _ over))
 
       module _ (few : order_of p + order_of q ≤ largest_degree) where
-        second : product_overflow a p q ≡ broken (ltb most_terms (product_count a p q)) Terms (broken (ltb largest_norm (product_norm a p q)) Number None)
-        second = first ∙ ap (λ b. broken b Degree (broken (ltb most_terms (product_count a p q)) Terms (broken (ltb largest_norm (product_norm a p q)) Number None))) (le-ltb _ _ few)
+        second : product_overflow a p q ≡ broken (ltb most_terms (product_count a p q)) Terms
+            (broken (ltb largest_norm (product_norm a p q)) Number None)
+        second = first ∙ ap (λ b. broken b Degree
+            (broken (ltb most_terms (product_count a p q)) Terms (broken (ltb largest_norm (product_norm a p q)) Number None))) (le-ltb _ _ few)
 
         pub by_count : ltb most_terms (product_count a p q) ≡ true → Some Terms ≡ product_overflow a p q
         by_count over = sym (second ∙ ap (λ b. broken b Terms (broken (ltb largest_norm (product_norm a p q)) Number None)) over)
@@ -100,7 +114,9 @@ module _ (a : Name → Action) (p q : Operator) where
         pub by_norm :
             ltb most_terms (product_count a p q) ≡ false → (b : Bool) → ltb largest_norm (product_norm a p q) ≡ b →
             broken b Number None ≡ product_overflow a p q
-        by_norm within b over = sym (second ∙ ap (λ b. broken b Terms (broken (ltb largest_norm (product_norm a p q)) Number None)) within ∙ ap (λ b. broken b Number None) over)
+        by_norm within b over =
+            sym (second ∙ ap (λ b. broken b Terms (broken (ltb largest_norm (product_norm a p q)) Number None)) within
+            ∙ ap (λ b. broken b Number None) over)
 
 over_below_positive : (f : Name → ℕ) → ((i : Name) → 0 < f i) → (n : ℕ) → 0 < over_below n f
 over_below_positive f some zero = omega arith
@@ -141,7 +157,9 @@ row_counts :
     (a : Name → Action) (s : CoefficientTerm) (qs : List CoefficientTerm) → length qs ≤ measure_of_row a false s qs
 row_counts a s [] = omega arith
 row_counts a s (t ∷ qs) =
-    let some : 0 < pair_measure a false s t = over_below_positive (λ i. name_measure false (a i) (exp s.symbols (place i)) (exp t.names (place i))) (λ i. how_many-positive (a i) (exp s.symbols (place i)) (exp t.names (place i))) number_of_names in
+    let some : 0 < pair_measure a false s t =
+    over_below_positive (λ i. name_measure false (a i) (exp s.symbols (place i)) (exp t.names (place i)))
+    (λ i. how_many-positive (a i) (exp s.symbols (place i)) (exp t.names (place i))) number_of_names in
     omega (arith, row_counts a s qs, sum_by-cons (pair_measure a false s) t qs)
 
 pub pairs_count :

@@ -28,7 +28,8 @@ module _ (a : Name → Action) where
       let here : place (name_with n) ≡ n = place-name_with n (omega arith) in
       expanded_below-value n (omega arith) m (raised (a (name_with n)) n (exp m n) ts)
       ∙ ap (power_below (symbol_before a) (symbols_commute a) n m)
-      (subst (λ k. sum_of_parts (raised (a (name_with n)) k (exp m n) ts) ≡ times_over (exp m n) (symbol_before a (name_with n)) (sum_of_parts ts)) here
+      (subst (λ k. sum_of_parts (raised (a (name_with n)) k (exp m n) ts) ≡ times_over (exp m n) (symbol_before a (name_with n)) (sum_of_parts ts))
+      here
       (raised-value a (name_with n) (exp m n) ts))
 
   pub expanded-value :

@@ -54,7 +54,8 @@ within-lowered :
 within-lowered b d t i k u j known below h = record {
   symbols = omega (arith, h.symbols, left-le t k j, total-with_exponent i (exp u.symbols i + symbols_left t k j) u.symbols known);
   names = omega (arith, h.names, total-with_exponent i (exp u.names i - j) u.names known);
-  some = subst (λ n. 0 < n) (sym (unsigned_abs-mul u.number (pos (ways t k (exp u.names i) j)))) (mul-pos h.some (ways-positive t k (exp u.names i) j below));
+  some = subst (λ n. 0 < n) (sym (unsigned_abs-mul u.number (pos (ways t k (exp u.names i) j))))
+      (mul-pos h.some (ways-positive t k (exp u.names i) j below));
 }
 
 pub within-raised :
@@ -86,8 +87,10 @@ pub way_fits :
     (ways t k (exp u.names i) j ≤ largest_norm) × (nat_abs u.number * ways t k (exp u.names i) j ≤ largest_norm)
 way_fits t i k u j can below =
     let w = ways t k (exp u.names i) j in
-    let member : nat_abs (u.number *ℤ pos w) ≤ size_of (raised_term t i k u) = member-le (how_many t k (exp u.names i)) (lowered_term t i k u) j below in
-    let both : nat_abs u.number * w ≤ largest_norm = omega (arith, can.small, size-raised-cons t i k u [], member, unsigned_abs-mul u.number (pos w)) in
+    let member : nat_abs (u.number *ℤ pos w) ≤ size_of (raised_term t i k u) =
+    member-le (how_many t k (exp u.names i)) (lowered_term t i k u) j below in
+    let both : nat_abs u.number * w ≤ largest_norm =
+    omega (arith, can.small, size-raised-cons t i k u [], member, unsigned_abs-mul u.number (pos w)) in
     (larger (nat_abs u.number) w can.each.0.some both, both)
   where
     larger : (n w : ℕ) → 0 < n → n * w ≤ largest_norm → w ≤ largest_norm
@@ -142,12 +145,18 @@ at_least : (n s : ℕ) → 0 < n → s ≤ n * s
 at_least zero s some = absurd (omega arith)
 at_least (suc n) s some = omega arith
 
-module _ (a : Name → Action) (e : Mono × Polynomial) (es : List (Mono × Polynomial)) (ts : List CoefficientTerm) (can : CanMultiply a (e ∷ es) ts) where
+module _ (a : Name → Action) (e : Mono × Polynomial) (es : List (Mono × Polynomial)) (ts : List CoefficientTerm)
+    (can : CanMultiply a (e ∷ es) ts) where
   size-parts : size_of (multiplied_by e.1.terms (expanded a e.0 ts)) + size_of (product_terms a es ts) ≤ largest_norm
   size-parts = omega (arith, can.small, sum_by-append size (multiplied_by e.1.terms (expanded a e.0 ts)) (product_terms a es ts))
 
   size-scaled : norm_of e.1.terms * size_of (expanded a e.0 ts) ≤ largest_norm
-  size-scaled = omega (arith, size-parts, size_of-multiplied_by e.1.terms (expanded a e.0 ts), scaled-sum (λ (u : Mono × ℤ). nat_abs u.1) (size_of (expanded a e.0 ts)) e.1.terms)
+  size-scaled = omega (
+    arith,
+    size-parts,
+    size_of-multiplied_by e.1.terms (expanded a e.0 ts),
+    scaled-sum (λ (u : Mono × ℤ). nat_abs u.1) (size_of (expanded a e.0 ts)) e.1.terms,
+  )
 
   pub can_expand : CanExpand a e.0 ts
   unfolding norm
@@ -180,9 +189,26 @@ pub can_multiply_parts :
     es ≡ xs ++ ys → CanMultiply a es ts → CanMultiply a xs ts × CanMultiply a ys ts
 can_multiply_parts {a} {es} {ts} xs ys whole can =
     let rooms = each_parts (HasRoom can.order can.names) xs ys (subst (EachTerm (HasRoom can.order can.names)) whole can.rooms) in
-    let both : size_of (product_terms a es ts) ≡ size_of (product_terms a xs ts) + size_of (product_terms a ys ts) = ap size_of (product_parts a ts xs ys whole) ∙ sum_by-append size (product_terms a xs ts) (product_terms a ys ts) in (
-      record { order = can.order; names = can.names; within = can.within; rooms = rooms.0; each = can.each; written = can.written; small = omega (arith, can.small, both) },
-      record { order = can.order; names = can.names; within = can.within; rooms = rooms.1; each = can.each; written = can.written; small = omega (arith, can.small, both) },
+    let both : size_of (product_terms a es ts) ≡ size_of (product_terms a xs ts) + size_of (product_terms a ys ts) =
+    ap size_of (product_parts a ts xs ys whole) ∙ sum_by-append size (product_terms a xs ts) (product_terms a ys ts) in (
+      record {
+        order = can.order;
+        names = can.names;
+        within = can.within;
+        rooms = rooms.0;
+        each = can.each;
+        written = can.written;
+        small = omega (arith, can.small, both);
+      },
+      record {
+        order = can.order;
+        names = can.names;
+        within = can.within;
+        rooms = rooms.1;
+        each = can.each;
+        written = can.written;
+        small = omega (arith, can.small, both);
+      },
     )
 
 -- ---- what the loop reads

@@ -53,7 +53,8 @@ module _ (a : Name → Action) (m : Mono) where
       expanded_below-size n (omega arith) (raised (a (name_with n)) n (exp m n) ts)
       ∙ raised-size (a (name_with n)) n (exp m n) (λ l. over_below n (λ i. weights i (exp l (place i))))
       (λ e l. kept weights n e n (omega arith) (omega arith) l) ts
-      ∙ ap (λ k. sum_by (λ t. nat_abs t.number * (over_below n (λ i. weights i (exp t.names (place i))) * pair_weight a (name_with n) (exp m k) (exp t.names k))) ts)
+      ∙ ap (λ k. sum_by (λ t. nat_abs t.number * (over_below n (λ i. weights i (exp t.names (place i))) * pair_weight a (name_with n) (exp m k)
+      (exp t.names k))) ts)
       (sym here)
 
   pub expanded-count :

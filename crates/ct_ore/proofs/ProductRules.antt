@@ -121,8 +121,10 @@ rooms :
     greatest (map (λ (e : Mono × Polynomial). degree e.1) es) ≤ d → EachTerm (HasRoom order names) es
 unfolding norm
 rooms b d order names p q [] h orders degrees = tt
-rooms b d order names p q (e ∷ es) h orders degrees =
-    (record { symbols = omega arith; degrees = omega arith; some = some_norm e.1.terms e.1.canonical h.0 }, rooms b d order names p q es h.2 (omega arith) (omega arith))
+rooms b d order names p q (e ∷ es) h orders degrees = (
+  record { symbols = omega arith; degrees = omega arith; some = some_norm e.1.terms e.1.canonical h.0 },
+  rooms b d order names p q es h.2 (omega arith) (omega arith),
+)
 
 pub can_multiply :
     (a : Name → Action) (p q : Operator) (ts : List CoefficientTerm) → ts ≡ coefficient_terms q → FitsProduct a p q →
@@ -132,7 +134,8 @@ can_multiply a p q ts list fits = subst (CanMultiply a p.terms) (sym list) (reco
   order = order_of q;
   names = coefficient_degree q;
   within = omega (arith, fits.degrees);
-  rooms = rooms (order_of p) (coefficient_degree p) (order_of q) (coefficient_degree q) fits.orders fits.degrees p.terms p.canonical (omega arith) (omega arith);
+  rooms = rooms (order_of p) (coefficient_degree p) (order_of q) (coefficient_degree q) fits.orders fits.degrees p.terms p.canonical (omega arith)
+      (omega arith);
   each = coefficients_within q;
   written = coefficients_written q;
   small = omega (arith, fits.norm, product_norm-is a p q);

@@ -63,7 +63,8 @@ pub front_walked :
     IsFront ts n
 front_walked {ts} {rest} {last} n count w =
     let whole : ts ≡ (w.done ++ last ∷ []) ++ rest = w.whole ∙ sym (append_assoc w.done (last ∷ []) rest) in
-    let long : length ts ≡ length w.done + 1 + length rest = omega (arith, ap length whole, length-append (w.done ++ last ∷ []) rest, length-append w.done (last ∷ [])) in
+    let long : length ts ≡ length w.done + 1 + length rest =
+    omega (arith, ap length whole, length-append (w.done ++ last ∷ []) rest, length-append w.done (last ∷ [])) in
     let seam : n ≡ length (w.done ++ last ∷ []) = omega (arith, count, long, length-append w.done (last ∷ [])) in
     record {
       written = subst IsWritten (sym (ap₂ take seam whole ∙ take-append_seam (w.done ++ last ∷ []) rest)) w.written;
@@ -77,7 +78,8 @@ front_whole {ts} front all = subst IsWritten (ap (λ k. take k ts) all ∙ take-
 -- ---- a list that is in written form, or has the sum of one
 
 pub sum_of_itself : {ts us : List CoefficientTerm} → IsWritten ts → us ≡ ts → IsSum ts us
-sum_of_itself {ts} {us} written same = subst (IsSum ts) (sym same) (record { written = written; value = refl; few = omega arith; small = omega arith })
+sum_of_itself {ts} {us} written same =
+    subst (IsSum ts) (sym same) (record { written = written; value = refl; few = omega arith; small = omega arith })
 
 pub sum_of_same :
     {ts us vs : List CoefficientTerm} → sum_of_parts ts ≡ sum_of_parts us → length ts ≤ length us → size_of ts ≤ size_of us →
@@ -109,7 +111,8 @@ unfolding ◌⊕◌
 merged_within b d us vs ws terms uf vf u v =
     from_keys b d ws (subst (IsCanonical by_parts int_group) (sym terms) (IsCanonical-merged by_parts int_group (keyed us) (keyed vs) vf))
     (subst (EachTerm (λ k x. (total k.0 ≤ b) × (total k.1 ≤ d))) (sym terms)
-    (EachTerm-⊕ by_parts int_group (λ k. (total k.0 ≤ b) × (total k.1 ≤ d)) (record { terms = keyed us; canonical = uf }) (record { terms = keyed vs; canonical = vf })
+    (EachTerm-⊕ by_parts int_group (λ k. (total k.0 ≤ b) × (total k.1 ≤ d)) (record { terms = keyed us; canonical = uf })
+    (record { terms = keyed vs; canonical = vf })
     (to_keys b d us u) (to_keys b d vs v)))
 
 pub within_parts :

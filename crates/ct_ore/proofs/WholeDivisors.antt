@@ -54,13 +54,17 @@ module _ (p : Operator) (n : ℕ) (some : 0 < n) where
 
   pub common_only : (g : ℕ) → IsCommonDivisor p.terms n g → g ≡ common_divisor p n
   common_only g is =
-      listed g (λ d. (λ divides. let both = (is d).0 divides in (both.0, into_list d p.terms both.1), λ all. (is d).1 (all.0, from_list d p.terms all.1)))
+      listed g (λ d. (
+        λ divides. let both = (is d).0 divides in (both.0, into_list d p.terms both.1),
+        λ all. (is d).1 (all.0, from_list d p.terms all.1),
+      ))
 
   pub common_is : IsCommonDivisor p.terms n (common_divisor p n)
   common_is = by (some_content (with_number p n))
     where
       by : (g : ℕ) × IsContentOf (with_number p n) g → IsCommonDivisor p.terms n (common_divisor p n)
-      by (g, is) = subst (IsCommonDivisor p.terms n) (listed g is) (λ d. (λ divides. let all = (is d).0 divides in (all.0, from_list d p.terms all.1), λ both. (is d).1 (both.0, into_list d p.terms both.1)))
+      by (g, is) = subst (IsCommonDivisor p.terms n) (listed g is)
+          (λ d. (λ divides. let all = (is d).0 divides in (all.0, from_list d p.terms all.1), λ both. (is d).1 (both.0, into_list d p.terms both.1)))
 
 -- ---- the loop
 
@@ -78,7 +82,10 @@ gathers_more {ts} {rest} {more} {t} {n} {g} {a} {h} rest_is size common before =
     let here : Gathers ts n g (t ∷ more) = subst (Gathers ts n g) rest_is before in
     record {
       same = λ d. (
-        λ both. (here.same d).0 (dvd_trans d both.0 common.1, ((content_is t.coef d).0 (subst (λ k. d ∣ k) size (dvd_trans d both.0 common.0)), both.1)),
+        λ both. (here.same d).0 (
+          dvd_trans d both.0 common.1,
+          ((content_is t.coef d).0 (subst (λ k. d ∣ k) size (dvd_trans d both.0 common.0)), both.1),
+        ),
         λ all. let both = (here.same d).1 all in (common.2 d (subst (λ k. d ∣ k) (sym size) ((content_is t.coef d).1 both.1.0)) both.0, both.1.1),
       );
     }
@@ -114,18 +121,22 @@ over_one p = ap operator_of (over_one_list p.terms) ∙ operator_laws.sums_of_te
 pub quotient_terms : (d : ℕ) (c : Polynomial) → DividesEach d c → (divided unit (pos d) c).terms ≡ quotients unit (pos d) c.terms
 quotient_terms d c all = divided_terms unit (pos d) c (each_divides d c.terms all)
 
-some_left : (d : ℕ) (c : Polynomial) → DividesEach d c → T (cond (has_none monomials int_group c.terms) false true) → T (cond (has_none monomials int_group (divided unit (pos d) c).terms) false true)
+some_left : (d : ℕ) (c : Polynomial) → DividesEach d c → T (cond (has_none monomials int_group c.terms) false true) →
+    T (cond (has_none monomials int_group (divided unit (pos d) c).terms) false true)
 some_left d c all some = subst (λ es. T (cond (has_none monomials int_group es) false true)) (sym (quotient_terms d c all)) (by c.terms some)
   where
-    by : (es : List (Mono × ℤ)) → T (cond (has_none monomials int_group es) false true) → T (cond (has_none monomials int_group (quotients unit (pos d) es)) false true)
+    by : (es : List (Mono × ℤ)) → T (cond (has_none monomials int_group es) false true) →
+        T (cond (has_none monomials int_group (quotients unit (pos d) es)) false true)
     by [] none = none
     by (e ∷ es) some = tt
 
-below_over : (d : ℕ) (m : Mono) (es : List (Mono × Polynomial)) → AllBelow monomials polys.group m es → AllBelow monomials polys.group m (map (entry_over d) es)
+below_over : (d : ℕ) (m : Mono) (es : List (Mono × Polynomial)) → AllBelow monomials polys.group m es →
+    AllBelow monomials polys.group m (map (entry_over d) es)
 below_over d m [] below = tt
 below_over d m (e ∷ es) below = (below.0, below_over d m es below.1)
 
-canonical_over : (d : ℕ) (es : List (Mono × Polynomial)) → DividesTerms d es → IsCanonical monomials polys.group es → IsCanonical monomials polys.group (map (entry_over d) es)
+canonical_over : (d : ℕ) (es : List (Mono × Polynomial)) → DividesTerms d es → IsCanonical monomials polys.group es →
+    IsCanonical monomials polys.group (map (entry_over d) es)
 canonical_over d [] all canonical = tt
 canonical_over d (e ∷ es) all canonical =
     (some_left d e.1 all.0 canonical.0, below_over d e.0 es canonical.1, canonical_over d es all.1 canonical.2)
@@ -170,7 +181,8 @@ size_over d (e ∷ es) all =
       size_over d es all.1,
     )
 
-pub over_fits : (d : ℕ) (p : Operator) → DividesOperator d p → term_count p ≤ most_terms → term_norm p ≤ largest_norm → Fits (coefficient_terms (over_whole d p))
+pub over_fits : (d : ℕ) (p : Operator) → DividesOperator d p → term_count p ≤ most_terms → term_norm p ≤ largest_norm →
+    Fits (coefficient_terms (over_whole d p))
 unfolding coefficient_terms
 over_fits d p all few small =
     let terms = over_terms d p all in

@@ -36,7 +36,9 @@ module _ (a : Name → Action) where
       ap (scaled d) (operator_laws.sums_of_terms.of_more (entry_over d e) (map (entry_over d) es))
       ∙ scaled-sum d (term_of e.0 (divided unit (pos d) e.1)) (operator_of (map (entry_over d) es))
       ∙ ap₂ sum_of_operators
-      (on_term (number (pos d)) e.0 (divided unit (pos d) e.1) ∙ ap (term_of e.0) (ap (λ w. times w (divided unit (pos d) e.1)) (number_is (pos d)) ∙ divided_whole unit (pos d) e.1 (each_divides d e.1.terms all.0)))
+      (on_term (number (pos d)) e.0 (divided unit (pos d) e.1)
+      ∙ ap (term_of e.0) (ap (λ w. times w (divided unit (pos d) e.1)) (number_is (pos d))
+      ∙ divided_whole unit (pos d) e.1 (each_divides d e.1.terms all.0)))
       (scaled_list d es all.1)
       ∙ sym (operator_laws.sums_of_terms.of_more e es)
 

@@ -15,7 +15,8 @@ use Rattle.ct_ore.proofs.OneTerm.{terms-term, some_term, coefficient_degree-one,
 use Rattle.ct_ore.proofs.PairMeasureLaws.{begin, none_of_zero}
 use Rattle.ct_ore.proofs.PairSums.{pairs_together, together-cons, together-none, no_symbols-weight, no_symbols-count}
 
-multiple_fits : (a : Name → Action) (n : ℕ) (p : Operator) → n * term_norm p ≤ largest_norm → checked_multiple a n p ≡ Ok (product_of a (whole_operator n) p)
+multiple_fits : (a : Name → Action) (n : ℕ) (p : Operator) → n * term_norm p ≤ largest_norm →
+    checked_multiple a n p ≡ Ok (product_of a (whole_operator n) p)
 unfolding checked_multiple verdict
 multiple_fits a n p small =
     ap (λ b. verdict (broken b Number None) (product_of a (whole_operator n) p)) (le-ltb largest_norm (n * term_norm p) small)
@@ -65,7 +66,8 @@ module _ (n : ℕ) (some : 0 < n) where
   number_norm = ap norm_of number_terms ∙ let plain : 0 + n ≡ n = omega arith in plain
 
   module _ (a : Name → Action) (p : Operator) where
-    measured : (w : Bool) → measure_of_pairs a w (coefficient_terms (whole_operator n)) (coefficient_terms p) ≡ coefficient_measure w (number (pos n)) * symbols_measure a w unit (coefficient_terms p)
+    measured : (w : Bool) → measure_of_pairs a w (coefficient_terms (whole_operator n)) (coefficient_terms p) ≡
+        coefficient_measure w (number (pos n)) * symbols_measure a w unit (coefficient_terms p)
     unfolding coefficient_terms
     measured w =
         let qs = all_terms p.terms in
@@ -77,7 +79,8 @@ module _ (n : ℕ) (some : 0 < n) where
     counted : product_count a (whole_operator n) p ≡ term_count p
     counted =
         sym (count-pairs a (whole_operator n) p) ∙ measured false
-        ∙ ap₂ ◌*◌ (ap (λ (es : List (Mono × ℤ)). length es) number_terms) (sym (no_symbols-count a unit total_unit (coefficient_terms p)) ∙ count-coefficient_terms p)
+        ∙ ap₂ ◌*◌ (ap (λ (es : List (Mono × ℤ)). length es) number_terms) (sym (no_symbols-count a unit total_unit (coefficient_terms p))
+        ∙ count-coefficient_terms p)
         ∙ omega arith
 
     weighed : product_norm a (whole_operator n) p ≡ n * term_norm p
@@ -98,7 +101,9 @@ module _ (n : ℕ) (some : 0 < n) where
           by : (k : ℕ) → length p.terms ≡ k → product_overflow a (whole_operator n) p ≡ broken (ltb largest_norm (n * term_norm p)) Number None
           by zero none = empty none
           by (suc k) more =
-              let pairs : length (whole_operator n).terms * length p.terms ≢ 0 = λ none. let one = ap (λ (es : List (Mono × Polynomial)). length es) terms in let some_pairs : 1 * suc k ≡ 0 = sym (ap₂ ◌*◌ one more) ∙ none in absurd (omega (arith, some_pairs)) in
+              let pairs : length (whole_operator n).terms * length p.terms ≢ 0 =
+              λ none. let one = ap (λ (es : List (Mono × Polynomial)). length es) terms in
+              let some_pairs : 1 * suc k ≡ 0 = sym (ap₂ ◌*◌ one more) ∙ none in absurd (omega (arith, some_pairs)) in
               let one = le-ltb largest_degree (coefficient_degree (whole_operator n) + coefficient_degree p) (omega (arith, no_degree, low)) in
               let two = le-ltb largest_degree (order_of (whole_operator n) + order_of p) (omega (arith, no_order, low_order)) in
               let three = le-ltb most_terms (product_count a (whole_operator n) p) (omega (arith, counted, few)) in

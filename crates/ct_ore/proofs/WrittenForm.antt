@@ -23,7 +23,8 @@ number_at-part k x m n =
   where
     by :
         (r : Ordering) →
-        at monomials int_group (by_order r polys.zero (term k.1 x) polys.zero) n ≡ by_order (ordering_then r (mono_cmp k.1 n)) int_group.zero x int_group.zero
+        at monomials int_group (by_order r polys.zero (term k.1 x) polys.zero) n ≡
+        by_order (ordering_then r (mono_cmp k.1 n)) int_group.zero x int_group.zero
     by Less = at-none monomials int_group n
     by Equal = ap (λ c. at monomials int_group c n) (term_is k.1 x) ∙ at-single monomials int_group k.1 n x
     by Greater = at-none monomials int_group n

@@ -10,7 +10,8 @@ pub terms-operator_of :
     (es : List (Mono × Polynomial)) → IsCanonical monomials polys.group es → (operator_of es).terms ≡ es
 unfolding operator_of sum_of
 terms-operator_of es h =
-    same_list monomials polys.group _ _ (IsCanonical-merged monomials polys.group es [] tt) h (λ k. sum_over-merged (pick-IsAdditive monomials polys.group k) monomials es [] ∙ polys.group.add_zero _)
+    same_list monomials polys.group _ _ (IsCanonical-merged monomials polys.group es [] tt) h
+    (λ k. sum_over-merged (pick-IsAdditive monomials polys.group k) monomials es [] ∙ polys.group.add_zero _)
 
 pub terms_of : {p : Operator} (ts : List OpTerm) → IsOperator ts → operator_of_terms ts ≡ p → op_entries ts ≡ p.terms
 unfolding operator_of_terms
@@ -31,8 +32,10 @@ terms-no_operator = refl
 
 -- no terms stand for 0, and nothing else does
 pub is_none : {p : Operator} (ts : List OpTerm) → IsOperator ts → operator_of_terms ts ≡ p → (length ts ≡ 0) ↔ (p ≡ no_operator)
-is_none {p} ts h value =
-    (λ empty. sym value ∙ value_of_terms {p = no_operator} ts (empty_entries ts empty ∙ sym terms-no_operator), λ zero. no_entries ts (terms_of ts h (value ∙ zero) ∙ terms-no_operator))
+is_none {p} ts h value = (
+  λ empty. sym value ∙ value_of_terms {p = no_operator} ts (empty_entries ts empty ∙ sym terms-no_operator),
+  λ zero. no_entries ts (terms_of ts h (value ∙ zero) ∙ terms-no_operator),
+)
   where
     empty_entries : (ts : List OpTerm) → length ts ≡ 0 → op_entries ts ≡ []
     empty_entries [] e = refl

@@ -11,7 +11,8 @@ pub record IsAdding (before : List ℤ) (base : ℕ) (c : ℤ) (row : List Spot)
   pub inside : All (λ s. base + s.cell < length cells) left
   pub small : size_of_cells cells + nat_abs c * size_of_spots left ≤ size_of_cells before + nat_abs c * size_of_spots row
 
-module _ {before cells : List ℤ} {base : ℕ} {c : ℤ} {row left rest : List Spot} {s : Spot} (left_is : left ≡ s ∷ rest) (adding : IsAdding before base c row cells left) where
+module _ {before cells : List ℤ} {base : ℕ} {c : ℤ} {row left rest : List Spot} {s : Spot} (left_is : left ≡ s ∷ rest)
+    (adding : IsAdding before base c row cells left) where
   all : All (λ s. base + s.cell < length cells) (s ∷ rest)
   all = subst (λ l. All (λ s. base + s.cell < length cells) l) left_is adding.inside
 
@@ -24,9 +25,18 @@ module _ {before cells : List ℤ} {base : ℕ} {c : ℤ} {row left rest : List 
   pub sum_fits : (d : ℤ) → d ≡ c *ℤ s.coef → size_of_cells before + nat_abs c * size_of_spots row ≤ largest_norm
       → nat_abs (slice_index_or cells (base + s.cell) (pos 0)) + nat_abs d ≤ largest_norm
   sum_fits d d_is most =
-      omega (arith, most, adding.small, get_or-le-sum_by nat_abs cells (base + s.cell) (pos 0) here, ap (λ n. nat_abs c * n) sizes, ap nat_abs d_is, unsigned_abs-mul c s.coef)
+      omega (
+        arith,
+        most,
+        adding.small,
+        get_or-le-sum_by nat_abs cells (base + s.cell) (pos 0) here,
+        ap (λ n. nat_abs c * n) sizes,
+        ap nat_abs d_is,
+        unsigned_abs-mul c s.coef,
+      )
 
-  pub one_added : (z : ℤ) → z ≡ slice_index_or cells (base + s.cell) (pos 0) +ℤ c *ℤ s.coef → IsAdding before base c row (slice_set cells (base + s.cell) z) rest
+  pub one_added : (z : ℤ) → z ≡ slice_index_or cells (base + s.cell) (pos 0) +ℤ c *ℤ s.coef →
+      IsAdding before base c row (slice_set cells (base + s.cell) z) rest
   one_added z z_is =
       let old = slice_index_or cells (base + s.cell) (pos 0) in
       let abs : nat_abs z ≤ nat_abs old + nat_abs c * nat_abs s.coef = omega (arith, ints, ap nat_abs z_is, unsigned_abs-mul c s.coef) in

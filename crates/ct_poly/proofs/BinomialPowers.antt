@@ -50,7 +50,14 @@ module _ (i : ℕ) (known : i < 6) where
 
       lower : each.0.exponent < r.exponent
       lower =
-          omega (arith, not_same, total_of_less f.0 m less, ap total each.0.is ∙ total-raised each.0.exponent, ap total r.is ∙ total-raised r.exponent)
+          omega (
+            arith,
+            not_same,
+            total_of_less f.0 m less,
+            ap total each.0.is ∙ total-raised each.0.exponent,
+            ap total r.is
+                ∙ total-raised r.exponent,
+          )
 
   each_few : (e : ℕ) (es : List (Mono × ℤ)) → EachTerm (λ m c. IsRaised i e m) es → IsCanonical monomials int_group es → length es ≤ e + 1
   each_few e [] each falling = omega arith
@@ -62,15 +69,21 @@ module _ (i : ℕ) (known : i < 6) where
 
   -- ---- the terms of the powers
 
-  more_raised : (e : ℕ) (es : List (Mono × ℤ)) → EachTerm (λ m c. IsRaised i e m) es → EachTerm (λ m c. IsRaised i (suc e) m) (row_of (symbol (name_with i), pos 1) es)
+  more_raised : (e : ℕ) (es : List (Mono × ℤ)) → EachTerm (λ m c. IsRaised i e m) es →
+      EachTerm (λ m c. IsRaised i (suc e) m) (row_of (symbol (name_with i), pos 1) es)
   more_raised e [] each = tt
-  more_raised e (f ∷ es) each =
-      (record { exponent = suc each.0.exponent; within = omega (arith, each.0.within); is = ap (λ m. symbol (name_with i) · m) each.0.is }, more_raised e es each.1)
+  more_raised e (f ∷ es) each = (
+    record { exponent = suc each.0.exponent; within = omega (arith, each.0.within); is = ap (λ m. symbol (name_with i) · m) each.0.is },
+    more_raised e es each.1,
+  )
 
-  still_raised : (e : ℕ) (c : ℤ) (es : List (Mono × ℤ)) → EachTerm (λ m c. IsRaised i e m) es → EachTerm (λ m c. IsRaised i (suc e) m) (row_of (unit, c) es)
+  still_raised : (e : ℕ) (c : ℤ) (es : List (Mono × ℤ)) → EachTerm (λ m c. IsRaised i e m) es →
+      EachTerm (λ m c. IsRaised i (suc e) m) (row_of (unit, c) es)
   still_raised e c [] each = tt
-  still_raised e c (f ∷ es) each =
-      (record { exponent = each.0.exponent; within = omega (arith, each.0.within); is = ·_comm unit f.0 ∙ ·-unit f.0 ∙ each.0.is }, still_raised e c es each.1)
+  still_raised e c (f ∷ es) each = (
+    record { exponent = each.0.exponent; within = omega (arith, each.0.within); is = ·_comm unit f.0 ∙ ·-unit f.0 ∙ each.0.is },
+    still_raised e c es each.1,
+  )
 
   module _ (a : ℕ) (positive : 0 < a) where
     power_parts : (q : Polynomial) → times (binomial i a) q ≡ plus (times (term (symbol (name_with i)) (pos 1)) q) (times (term unit (pos a)) q)
@@ -78,13 +91,16 @@ module _ (i : ℕ) (known : i < 6) where
         times_is _ _ ∙ ap (λ w. polys.◌*◌ w q) (plus_is _ _ ∙ ap₂ polys.◌+◌ (name_is (name_with i)) (number_is (pos a)))
         ∙ add_mul polys _ _ q ∙ sym (plus_is _ _ ∙ ap₂ polys.◌+◌ (times_is _ _) (times_is _ _))
 
-    next_raised : (e : ℕ) → EachTerm (λ m c. IsRaised i e m) (power_of i a e).terms → EachTerm (λ m c. IsRaised i (suc e) m) (power_of i a (suc e)).terms
+    next_raised : (e : ℕ) → EachTerm (λ m c. IsRaised i e m) (power_of i a e).terms →
+        EachTerm (λ m c. IsRaised i (suc e) m) (power_of i a (suc e)).terms
     unfolding plus
     next_raised e each =
         subst (λ p. EachTerm (λ m c. IsRaised i (suc e) m) p.terms) (sym (power_parts (power_of i a e)))
         (EachTerm-⊕ monomials int_group (IsRaised i (suc e)) _ _
-        (subst (EachTerm (λ m c. IsRaised i (suc e) m)) (sym (terms-multiple (symbol (name_with i)) (pos 1) (power_of i a e) tt)) (more_raised e _ each))
-        (subst (EachTerm (λ m c. IsRaised i (suc e) m)) (sym (terms-multiple unit (pos a) (power_of i a e) (positive_coef a positive))) (still_raised e (pos a) _ each)))
+        (subst (EachTerm (λ m c. IsRaised i (suc e) m)) (sym (terms-multiple (symbol (name_with i)) (pos 1) (power_of i a e) tt))
+        (more_raised e _ each))
+        (subst (EachTerm (λ m c. IsRaised i (suc e) m)) (sym (terms-multiple unit (pos a) (power_of i a e) (positive_coef a positive)))
+        (still_raised e (pos a) _ each)))
 
     each_raised : (e : ℕ) → EachTerm (λ m c. IsRaised i e m) (power_of i a e).terms
     each_raised zero =

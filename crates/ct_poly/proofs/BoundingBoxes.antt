@@ -30,7 +30,8 @@ divides_self m = exp_divides m m (λ i small. omega arith)
 pub raising_start : (m n : Mono) → IsRaising m n m 0
 raising_start m n = record { left = divides_self m; right = λ k small none. absurd (omega (arith, none)) }
 
-pub raising_more : {m n w next : Mono} {i e : ℕ} → i < 6 → e ≡ exp n i → (e ≤ exp next i) × Divides w next → IsRaising m n w i → IsRaising m n next (i + 1)
+pub raising_more : {m n w next : Mono} {i e : ℕ} → i < 6 → e ≡ exp n i → (e ≤ exp next i) × Divides w next → IsRaising m n w i →
+    IsRaising m n next (i + 1)
 raising_more {m} {n} {w} {next} {i} {e} known e_is raised raising = record {
   left = divides_trans m w next raising.left raised.1;
   right = λ k small before. by k small before (eqb k i) refl;
@@ -50,7 +51,8 @@ pub divides_greater : (i e : ℕ) (m : Mono) → i < 6 → exp m i ≤ e → Div
 divides_greater i e m known greater = exp_divides m (with_exponent i e m) (λ k small. by k small (eqb k i) refl)
   where
     by : (k : ℕ) → k < 6 → (b : Bool) → eqb k i ≡ b → exp m k ≤ exp (with_exponent i e m) k
-    by k small true same = subst (λ j. exp m j ≤ exp (with_exponent i e m) j) (sym (eqb-true k i same)) (omega (arith, exp-with_exponent_same i e m known, greater))
+    by k small true same = subst (λ j. exp m j ≤ exp (with_exponent i e m) j) (sym (eqb-true k i same))
+        (omega (arith, exp-with_exponent_same i e m known, greater))
     by k small false other = omega (arith, exp-with_exponent_other i e m k small (eqb-false k i other))
 
 -- ---- a common multiple of a list
@@ -64,7 +66,10 @@ pub bounding_more :
     IsBounding ts m rest → IsBounding ts n more
 bounding_more {ts} {rest} {more} {t} {m} {n} rest_is multiple bounding =
     let all : IsBounding ts m (t ∷ more) = subst (IsBounding ts m) rest_is bounding in
-    record { bounds = λ w divides inside. all.bounds w (divides_trans m n w multiple.0 divides) (divides_trans t.mono n w multiple.1 divides, inside) }
+    record {
+      bounds = λ w divides inside. all.bounds w (divides_trans m n w multiple.0 divides)
+          (divides_trans t.mono n w multiple.1 divides, inside);
+    }
 
 pub bounding_all : {ts rest : List Term} {m : Mono} → length rest ≡ 0 → IsBounding ts m rest → (w : Mono) → Divides m w → AreInBox w ts
 bounding_all {ts} {rest} {m} empty bounding w divides =

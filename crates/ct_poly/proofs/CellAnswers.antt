@@ -11,7 +11,8 @@ use Rattle.ct_poly.proofs.FittingQuotients.{fitting_quotient}
 use Rattle.ct_poly.proofs.TermLists.{terms_of, count_of-terms, norm_of-terms}
 use Rattle.ct_poly.proofs.Values.{IsKept}
 
-module _ {ps fs qs v : List Term} (found : IsQuotient (poly_of_terms ps) (length ps) (size_of ps) fs qs) (list : IsListOf (poly_of_terms qs) (length qs) (size_of qs) v) where
+module _ {ps fs qs v : List Term} (found : IsQuotient (poly_of_terms ps) (length ps) (size_of ps) fs qs)
+    (list : IsListOf (poly_of_terms qs) (length qs) (size_of qs) v) where
   pub cells_answer : {p f : Polynomial} → IsKept p ps → IsKept f fs → checked_quotient p f ≡ Ok (Some (poly_of_terms qs))
   cells_answer {p} {f} mine its = by fs refl
     where
@@ -34,6 +35,19 @@ module _ {ps fs qs v : List Term} (found : IsQuotient (poly_of_terms ps) (length
       by [] fs_are = absurd (found.some (ap length fs_are))
       by (u ∷ us) fs_are =
           fitting_quotient p f q (entry u) (entries us) (sym (terms_of fs its.falling its.value) ∙ ap entries fs_are)
-          (ap (times q) (sym its.value) ∙ found.value ∙ mine.value) (omega (arith, counts, found.room.few, factor_le (length qs) (length fs) found.some)) (omega (arith, norms, found.room.fits))
-          (omega (arith, found.room.few, count_of-terms ps mine.falling mine.value, mul-le-mul_right (count f) counts, ap (λ n. length qs * n) by_count))
-          (omega (arith, found.room.small, norm_of-terms ps mine.falling mine.value, mul-le-mul_right (norm f) norms, ap (λ n. size_of qs * n) by_norm))
+          (ap (times q) (sym its.value) ∙ found.value ∙ mine.value)
+          (omega (arith, counts, found.room.few, factor_le (length qs) (length fs) found.some)) (omega (arith, norms, found.room.fits))
+          (omega (
+            arith,
+            found.room.few,
+            count_of-terms ps mine.falling mine.value,
+            mul-le-mul_right (count f) counts,
+            ap (λ n. length qs * n) by_count,
+          ))
+          (omega (
+            arith,
+            found.room.small,
+            norm_of-terms ps mine.falling mine.value,
+            mul-le-mul_right (norm f) norms,
+            ap (λ n. size_of qs * n) by_norm,
+          ))

@@ -53,7 +53,8 @@ more_cells n zero tops =
     subst (λ j. cells_below n tops ≤ cells_below j tops) none (let same : cells_below n tops ≤ cells_below n tops = omega arith in same)
 more_cells n (suc k) tops =
     let next : suc (k + n) ≡ suc k + n = omega arith in
-    subst (λ j. cells_below n tops ≤ cells_below j tops) next (omega (arith, more_cells n k tops, wider (cells_below (k + n) tops) (exp tops (k + n))))
+    subst (λ j. cells_below n tops ≤ cells_below j tops) next
+    (omega (arith, more_cells n k tops, wider (cells_below (k + n) tops) (exp tops (k + n))))
   where
     wider : (c e : ℕ) → c ≤ c * suc e
     wider c e = omega arith
@@ -90,7 +91,8 @@ cell_more i tops m =
     let wide : suc (exp tops i) ≡ exp tops i + 1 = omega arith in
     ap (λ n. cell_below n tops m) next ∙ ap (λ w. cell_below i tops m * w + exp m i) wide
 
-pub cell_fits : (i : ℕ) (tops m : Mono) → i < 6 → Divides m tops → cells_of tops ≤ most_cells → cell_below i tops m * (exp tops i + 1) + exp m i < most_cells
+pub cell_fits : (i : ℕ) (tops m : Mono) → i < 6 → Divides m tops → cells_of tops ≤ most_cells →
+    cell_below i tops m * (exp tops i + 1) + exp m i < most_cells
 cell_fits i tops m small divides few =
     let next : suc i ≤ 6 = omega (arith, small) in
     let all = divides_exp m tops divides in

@@ -43,7 +43,8 @@ pub spots_inside :
     All (λ s. cell + s.cell < n) (spots tops ts)
 spots_inside tops u n cell ts n_is cell_is each = by ts each
   where
-    by : (ts : List Term) → AreMultiplesInBox tops u ts → (k : ℕ) (d : Spot) → k < length (spots tops ts) → cell + (slice_index_or (spots tops ts) k d).cell < n
+    by : (ts : List Term) → AreMultiplesInBox tops u ts → (k : ℕ) (d : Spot) → k < length (spots tops ts) →
+        cell + (slice_index_or (spots tops ts) k d).cell < n
     by [] each k d small = absurd (omega (arith, small))
     by (t ∷ ts) each zero d small = omega (arith, cell_small tops (u · t.mono) each.0, cell_of-· tops u t.mono, n_is, cell_is)
     by (t ∷ ts) each (suc k) d small = by ts each.1 k d (omega (arith, small))
@@ -69,14 +70,17 @@ cell_of-unit tops = omega (arith, cell_of-· tops unit unit, ap (cell_of tops) (
 by_unit : (tops : Mono) (ts : List Term) → AreInBox tops ts → AreMultiplesInBox tops unit ts
 by_unit tops ts inside = EachTerm-weaker (λ m c divides. subst (λ w. Divides w tops) (sym (·_comm unit m ∙ ·-unit m)) divides) (entries ts) inside
 
-module _ (tops : Mono) (ts : List Term) (ss : List Spot) (zeros : List ℤ) (ss_are : ss ≡ spots tops ts) (inside : AreInBox tops ts) (whole : length zeros ≡ cells_of tops) (empty : AreZero zeros) where
+module _ (tops : Mono) (ts : List Term) (ss : List Spot) (zeros : List ℤ) (ss_are : ss ≡ spots tops ts) (inside : AreInBox tops ts)
+    (whole : length zeros ≡ cells_of tops) (empty : AreZero zeros) where
   pub start_inside : All (λ s. 0 + s.cell < length zeros) ss
-  start_inside = subst (All (λ s. 0 + s.cell < length zeros)) (sym ss_are) (spots_inside tops unit (length zeros) 0 ts whole (sym (cell_of-unit tops)) (by_unit tops ts inside))
+  start_inside = subst (All (λ s. 0 + s.cell < length zeros)) (sym ss_are)
+      (spots_inside tops unit (length zeros) 0 ts whole (sym (cell_of-unit tops)) (by_unit tops ts inside))
 
   pub start_size : size_of_cells zeros + 1 * size_of_spots ss ≡ size_of ts
   start_size = omega (arith, zeros_size zeros empty, ap size_of_spots ss_are, size-spots tops ts)
 
-  pub table_start : {cells : List ℤ} → cells_of tops ≤ most_cells → cells ≡ added 0 (pos 1) zeros ss → size_of_cells cells ≤ size_of_cells zeros + 1 * size_of_spots ss → IsTableOf ts tops cells
+  pub table_start : {cells : List ℤ} → cells_of tops ≤ most_cells → cells ≡ added 0 (pos 1) zeros ss →
+      size_of_cells cells ≤ size_of_cells zeros + 1 * size_of_spots ss → IsTableOf ts tops cells
   unfolding plus times
   table_start {cells} few cells_are small = record {
     table = subst₂ (λ p cs. IsTable tops p cs) value (sym (cells_are ∙ ap₂ (λ n rs. added n (pos 1) zeros rs) (sym (cell_of-unit tops)) ss_are))
@@ -124,20 +128,28 @@ less_more p q f m c =
 multiples_in : (tops room u : Mono) (ts : List Term) → Divides u room → AreMultiplesInBox tops room ts → AreMultiplesInBox tops u ts
 multiples_in tops room u ts divides each = EachTerm-weaker (λ m c inside. divides_product u room m tops divides inside) (entries ts) each
 
-module _ {start : List ℤ} {count norm : ℕ} {fs qs : List Term} {tops room : Mono} {ss : List Spot} {lead : Spot} {cells : List ℤ} {size below : ℕ} (d : IsDivisor tops fs ss lead room) (taking : IsTaking start count norm fs qs tops cells size below)
+module _ {start : List ℤ} {count norm : ℕ} {fs qs : List Term} {tops room : Mono} {ss : List Spot} {lead : Spot} {cells : List ℤ} {size below : ℕ}
+    (d : IsDivisor tops fs ss lead room) (taking : IsTaking start count norm fs qs tops cells size below)
     (u : Term) {cell : ℕ} (divides : Divides u.mono room) (cell_is : cell ≡ cell_of tops u.mono) where
   pub step_inside : All (λ s. cell + s.cell < length cells) ss
   step_inside =
       subst (All (λ s. cell + s.cell < length cells)) (sym d.same)
       (spots_inside tops u.mono (length cells) cell fs taking.taken.whole cell_is (multiples_in tops room u.mono fs divides d.products_in))
 
-  module _ {more_count more_norm : ℕ} (count_is : more_count ≡ length qs + 1) (norm_is : more_norm ≡ size + nat_abs u.coef) (fits : HasRoom count norm (length fs) (size_of fs) more_count more_norm) where
+  module _ {more_count more_norm : ℕ} (count_is : more_count ≡ length qs + 1) (norm_is : more_norm ≡ size + nat_abs u.coef)
+      (fits : HasRoom count norm (length fs) (size_of fs) more_count more_norm) where
     sizes : more_norm ≡ size_of (qs ++ u ∷ [])
     sizes = omega (arith, norm_is, taking.size_is, size_end qs u)
 
     grown : size_of_cells cells + nat_abs u.coef * size_of_spots ss ≤ norm + more_norm * size_of fs
     grown =
-        omega (arith, taking.taken.small, ap (λ n. nat_abs u.coef * n) (ap size_of_spots d.same ∙ size-spots tops fs), ap (λ n. n * size_of fs) norm_is, ap (λ n. n * size_of fs) taking.size_is)
+        omega (
+          arith,
+          taking.taken.small,
+          ap (λ n. nat_abs u.coef * n) (ap size_of_spots d.same ∙ size-spots tops fs),
+          ap (λ n. n * size_of fs) norm_is,
+          ap (λ n. n * size_of fs) taking.size_is,
+        )
 
     -- the sizes of the cells leave room for the step
     pub step_small : size_of_cells cells + nat_abs u.coef * size_of_spots ss ≤ largest_norm
@@ -160,7 +172,9 @@ module _ {start : List ℤ} {count norm : ℕ} {fs qs : List Term} {tops room : 
           inside = omega (arith, taking.inside, long, lower);
         })
       where
-        value : (n : Polynomial) → plus (minus n (times (poly_of_terms qs) (poly_of_terms fs))) (times (term u.mono (neg_ℤ u.coef)) (poly_of_terms fs)) ≡ minus n (times (poly_of_terms (qs ++ u ∷ [])) (poly_of_terms fs))
+        value : (n : Polynomial) →
+            plus (minus n (times (poly_of_terms qs) (poly_of_terms fs))) (times (term u.mono (neg_ℤ u.coef)) (poly_of_terms fs)) ≡
+            minus n (times (poly_of_terms (qs ++ u ∷ [])) (poly_of_terms fs))
         value n =
             less_more n (poly_of_terms qs) (poly_of_terms fs) u.mono u.coef
             ∙ ap (λ q. minus n (times q (poly_of_terms fs))) (sym (poly_of-append qs (u ∷ []) ∙ ap (polys.◌+◌ (poly_of_terms qs)) (poly_of-one u)))
@@ -184,7 +198,8 @@ measures_have_room fs {dividend} {divisor} {n} {size} same room =
 
 nothing_taken : (p f : Polynomial) → minus p (times (poly_of_terms []) f) ≡ p
 unfolding minus plus times
-nothing_taken p f = ap (λ w. polys.◌+◌ p (polys.neg w)) (ap (λ q. polys.◌*◌ q f) poly_of-none ∙ zero_mul polys f) ∙ ring2 polys p f (λ p f. (search reify depth 12, search reify depth 12)) refl
+nothing_taken p f = ap (λ w. polys.◌+◌ p (polys.neg w)) (ap (λ q. polys.◌*◌ q f) poly_of-none ∙ zero_mul polys f)
+    ∙ ring2 polys p f (λ p f. (search reify depth 12, search reify depth 12)) refl
 
 -- a difference that is zero
 same_of : (p q : Polynomial) → minus p q ≡ polys.zero → q ≡ p

@@ -107,7 +107,8 @@ pub meeting_more :
     IsMeeting m n least i → IsMeeting m n next (i + 1)
 meeting_more {m} {n} {least} {next} {i} {e} small e_is next_is meeting = record {
   done = λ k low before. ap (λ w. exp w k) next_is ∙ below k low before (eqb k i) refl;
-  left = λ k low after. ap (λ w. exp w k) next_is ∙ exp-with_exponent_other i e least k low (λ same. absurd (omega (arith, same))) ∙ meeting.left k low (omega arith);
+  left = λ k low after. ap (λ w. exp w k) next_is ∙ exp-with_exponent_other i e least k low (λ same. absurd (omega (arith, same)))
+      ∙ meeting.left k low (omega arith);
 }
   where
     below : (k : ℕ) → k < 6 → k < i + 1 → (b : Bool) → eqb k i ≡ b → exp (with_exponent i e least) k ≡ min (exp m k) (exp n k)

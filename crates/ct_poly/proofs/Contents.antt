@@ -18,8 +18,13 @@ some_content (e ∷ es) = more (some_content es)
   where
     more : (g : ℕ) × IsContentOf es g → (g : ℕ) × IsContentOf (e ∷ es) g
     more (g, is) =
-        let both = gcd-exists (unsigned_abs e.1) g in
-        (both.divisor, λ d. (λ h. (dvd_trans d h both.greatest.0, (is d).0 (dvd_trans d h both.greatest.1)), λ h. both.greatest.2 d h.0 ((is d).1 h.1)))
+        let both = gcd-exists (unsigned_abs e.1) g in (
+          both.divisor,
+          λ d. (
+            λ h. (dvd_trans d h both.greatest.0, (is d).0 (dvd_trans d h both.greatest.1)),
+            λ h. both.greatest.2 d h.0 ((is d).1 h.1),
+          ),
+        )
 
 -- ---- the test
 
@@ -27,7 +32,8 @@ test_each : (d : ℕ) (es : List (Mono × ℤ)) → divides_each d es ≡ true �
 test_each d [] passes = tt
 test_each d (e ∷ es) passes = by (eqb (unsigned_abs e.1 % d) 0) refl passes (test_each d es)
   where
-    by : (b : Bool) → eqb (unsigned_abs e.1 % d) 0 ≡ b → (b && divides_each d es) ≡ true → (divides_each d es ≡ true → DividesAll d es) → DividesAll d (e ∷ es)
+    by : (b : Bool) → eqb (unsigned_abs e.1 % d) 0 ≡ b → (b && divides_each d es) ≡ true → (divides_each d es ≡ true → DividesAll d es) →
+        DividesAll d (e ∷ es)
     by true first passes rest = (dvd_of_mod-eq-zero d (eqb-true _ 0 first), rest passes)
     by false first passes rest = cc
 

@@ -53,7 +53,8 @@ more_product : (w m r q : Polynomial) → plus (plus w (times m q)) (times r q) 
 unfolding plus times
 more_product w m r q = ring4 polys w m r q (λ w m r q. (search reify depth 12, search reify depth 12)) refl
 
-module _ {tops : Mono} {start : List ℤ} {ps qs rest more : List Term} {t : Term} {cells : List ℤ} {ss : List Spot} {cell : ℕ} (rest_is : rest ≡ t ∷ more) (cell_is : cell ≡ cell_of tops t.mono) (ss_are : ss ≡ spots tops qs)
+module _ {tops : Mono} {start : List ℤ} {ps qs rest more : List Term} {t : Term} {cells : List ℤ} {ss : List Spot} {cell : ℕ}
+    (rest_is : rest ≡ t ∷ more) (cell_is : cell ≡ cell_of tops t.mono) (ss_are : ss ≡ spots tops qs)
     (multiplying : IsMultiplying tops start ps qs cells rest) where
   at : IsMultiplying tops start ps qs cells (t ∷ more)
   at = subst (IsMultiplying tops start ps qs cells) rest_is multiplying
@@ -71,7 +72,8 @@ module _ {tops : Mono} {start : List ℤ} {ps qs rest more : List Term} {t : Ter
   spot_sizes : nat_abs t.coef * size_of_spots ss ≡ nat_abs t.coef * size_of qs
   spot_sizes = ap (λ n. nat_abs t.coef * n) (ap size_of_spots ss_are ∙ size-spots tops qs)
 
-  pub multiple_small : size_of_cells start + size_of ps * size_of qs ≤ largest_norm → size_of_cells cells + nat_abs t.coef * size_of_spots ss ≤ largest_norm
+  pub multiple_small : size_of_cells start + size_of ps * size_of qs ≤ largest_norm →
+      size_of_cells cells + nat_abs t.coef * size_of_spots ss ≤ largest_norm
   multiple_small most = omega (arith, most, at.small, ap (λ n. n * size_of qs) sizes, spot_sizes)
 
   pub multiplying_more :
@@ -84,7 +86,8 @@ module _ {tops : Mono} {start : List ℤ} {ps qs rest more : List Term} {t : Ter
     small = omega (arith, small, at.small, ap (λ n. n * size_of qs) sizes, spot_sizes, ap (λ n. nat_abs n * size_of_spots ss) c_is);
     holds = λ n begins. let h = at.holds n begins in record {
       so_far = plus h.so_far (times (term t.mono t.coef) (poly_of_terms qs));
-      table = subst (IsTable tops (plus h.so_far (times (term t.mono t.coef) (poly_of_terms qs)))) (sym (next_is ∙ cells_are)) (table_added t.mono t.coef qs h.table at.products.0);
+      table = subst (IsTable tops (plus h.so_far (times (term t.mono t.coef) (poly_of_terms qs)))) (sym (next_is ∙ cells_are))
+          (table_added t.mono t.coef qs h.table at.products.0);
       all = more_product h.so_far (term t.mono t.coef) (poly_of_terms more) (poly_of_terms qs)
           ∙ ap (λ w. plus h.so_far (times w (poly_of_terms qs))) (sym (poly_of-cons t more)) ∙ h.all;
     };
@@ -106,14 +109,16 @@ multiplied {tops} {start} {ps} {qs} {rest} {cells} empty multiplying =
     record {
       whole = end.whole;
       small = omega (arith, end.small);
-      table = λ n begins. let h = end.holds n begins in subst (λ w. IsTable tops w cells) (sym (no_product h.so_far (poly_of_terms qs)) ∙ h.all) h.table;
+      table = λ n begins. let h = end.holds n begins in
+          subst (λ w. IsTable tops w cells) (sym (no_product h.so_far (poly_of_terms qs)) ∙ h.all) h.table;
     }
 
 -- ---- the box of both products
 
 products_in : (m n tops : Mono) (ps qs : List Term) → AreInBox m ps → AreInBox n qs → Divides (m · n) tops → AreProductsInBox tops ps qs
 products_in m n tops ps qs first second inside =
-    EachTerm-weaker (λ k c mine. EachTerm-weaker (λ l d its. divides_trans (k · l) (m · n) tops (product_divides k m l n mine its) inside) (entries qs) second) (entries ps) first
+    EachTerm-weaker (λ k c mine. EachTerm-weaker (λ l d its. divides_trans (k · l) (m · n) tops (product_divides k m l n mine its) inside)
+    (entries qs) second) (entries ps) first
   where
     product_divides : (k m l n : Mono) → Divides k m → Divides l n → Divides (k · l) (m · n)
     product_divides k m l n (u, left) (v, right) = (u · v, turned u v k l ∙ ap₂ ◌·◌ left right)
@@ -142,7 +147,8 @@ pub crossed_table :
     IsTable tops (plus (times (poly_of_terms ps) (poly_of_terms xs)) (times (poly_of_terms ns) (poly_of_terms ys))) end
 unfolding plus
 crossed_table {tops} {zeros} {between} {end} {ps} {xs} {ns} {ys} empty whole first second =
-    subst (λ w. IsTable tops (polys.◌+◌ w (times (poly_of_terms ns) (poly_of_terms ys))) end) (zero_add polys.group _) (second.table _ (first.table _ (table_of_zeros tops zeros whole empty)))
+    subst (λ w. IsTable tops (polys.◌+◌ w (times (poly_of_terms ns) (poly_of_terms ys))) end) (zero_add polys.group _)
+    (second.table _ (first.table _ (table_of_zeros tops zeros whole empty)))
 
 -- ---- the answer
 
@@ -150,7 +156,8 @@ cross_is : (p a x y n : Polynomial) → n ≡ polys.neg a → plus (times p x) (
 unfolding plus times cross minus
 cross_is p a x y n n_is = ap (λ w. polys.◌+◌ (polys.◌*◌ p x) w) (ap (λ w. polys.◌*◌ w y) n_is ∙ neg_mul polys a y)
 
-module _ {p a x y f : Polynomial} {ps bs ns xs ys fs qs v : List Term} (first : IsKept p ps) (second : IsKept a bs) (third : IsKept x xs) (fourth : IsKept y ys) (divisor : IsKept f fs)
+module _ {p a x y f : Polynomial} {ps bs ns xs ys fs qs v : List Term} (first : IsKept p ps) (second : IsKept a bs) (third : IsKept x xs)
+    (fourth : IsKept y ys) (divisor : IsKept f fs)
     (negative : IsListOf (polys.neg (poly_of_terms bs)) (length bs) (size_of bs) ns) (some : f ≢ polys.zero) (room : CrossHasRoom p a x y) where
   pub cross_answer :
       {c n : ℕ} → c ≡ cross_count p a x y → n ≡ cross_norm p a x y →
@@ -185,7 +192,8 @@ module _ {p a x y f : Polynomial} {ps bs ns xs ys fs qs v : List Term} (first : 
 
 -- ---- from lists to polynomials
 
-module _ {p a x y : Polynomial} {ps bs xs ys : List Term} (first : IsKept p ps) (second : IsKept a bs) (third : IsKept x xs) (fourth : IsKept y ys) {m : Measure} (room : IsRoomForCross ps bs xs ys m) where
+module _ {p a x y : Polynomial} {ps bs xs ys : List Term} (first : IsKept p ps) (second : IsKept a bs) (third : IsKept x xs)
+    (fourth : IsKept y ys) {m : Measure} (room : IsRoomForCross ps bs xs ys m) where
   low : {p : Polynomial} (ps : List Term) → IsKept p ps → degree p ≡ list_degree (entries ps)
   unfolding degree
   low ps list = ap list_degree (sym (terms_of ps list.falling list.value))

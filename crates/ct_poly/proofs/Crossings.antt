@@ -38,7 +38,8 @@ unfolding checked_cross cross
 cross_fits p a x y room =
     let first = products_within p x in
     let second = products_within a y in
-    ap (λ c. c >>= (λ u. checked_times a y >>= (λ v. checked_minus u v))) (times_passes p x room.first_low (omega (arith, room.few)) (omega (arith, room.small)))
+    ap (λ c. c >>= (λ u. checked_times a y >>= (λ v. checked_minus u v)))
+    (times_passes p x room.first_low (omega (arith, room.few)) (omega (arith, room.small)))
     ∙ ap (λ c. c >>= (λ v. checked_minus (times p x) v)) (times_passes a y room.second_low (omega (arith, room.few)) (omega (arith, room.small)))
     ∙ minus_passes (times p x) (times a y) (omega (arith, room.few, first.0, second.0)) (omega (arith, room.small, first.1, second.1))
 

@@ -30,7 +30,9 @@ derivative_of_name i t u (suc e) some is lower scaled =
 module _ (i : ℕ) (known : i < 6) where
   is_lower : (m : Mono) (e : ℕ) → exp m i ≡ suc e → with_exponent i e m ≡ lower (name_with i) m
   is_lower m e raised =
-      same_mono _ _ (λ k small. exp-with_exponent i e m k small ∙ by k (eqb k i) refl ∙ sym (exp-lower (name_with i) m k small ∙ ap (λ n. exp m k - n) (plus_nat_is (name_with i) k ∙ ap (λ j. cond (eqb k j) 1 0) (place-name_with i known))))
+      same_mono _ _ (λ k small. exp-with_exponent i e m k small ∙ by k (eqb k i) refl
+      ∙ sym (exp-lower (name_with i) m k small
+      ∙ ap (λ n. exp m k - n) (plus_nat_is (name_with i) k ∙ ap (λ j. cond (eqb k j) 1 0) (place-name_with i known))))
     where
       by : (k : ℕ) (b : Bool) → eqb k i ≡ b → cond b e (exp m k) ≡ exp m k - cond b 1 0
       by k true same = let here : exp m k ≡ suc e = ap (exp m) (eqb→eq _ _ (subst T (sym same) tt)) ∙ raised in omega arith
@@ -39,7 +41,9 @@ module _ (i : ℕ) (known : i < 6) where
   -- the name times the lower monomial is the monomial
   raised_again : (m : Mono) (e : ℕ) → exp m i ≡ suc e → with_exponent i e m · symbol (name_with i) ≡ m
   raised_again m e raised =
-      same_mono _ _ (λ k small. exp-· _ _ k small ∙ ap₂ ◌+◌ (exp-with_exponent i e m k small) (exp-symbol (name_with i) k small ∙ ap (λ j. cond (eqb k j) 1 0) (place-name_with i known)) ∙ by k (eqb k i) refl)
+      same_mono _ _ (λ k small. exp-· _ _ k small
+      ∙ ap₂ ◌+◌ (exp-with_exponent i e m k small) (exp-symbol (name_with i) k small ∙ ap (λ j. cond (eqb k j) 1 0) (place-name_with i known))
+      ∙ by k (eqb k i) refl)
     where
       by : (k : ℕ) (b : Bool) → eqb k i ≡ b → cond b e (exp m k) + cond b 1 0 ≡ exp m k
       by k true same = let here : exp m k ≡ suc e = ap (exp m) (eqb→eq _ _ (subst T (sym same) tt)) ∙ raised in omega arith
@@ -99,7 +103,15 @@ module _ (i : ℕ) (known : i < 6) where
           → size_of (lowered i t d ++ made_of (derivative i) ts) ≡ derivative_size i (t ∷ ts)
       by zero is later = omega (arith, later, sum_by-cons weight t ts, ap (λ n. nat_abs t.coef * n) is)
       by (suc d) is later =
-          omega (arith, later, sum_by-cons weight t ts, ap (λ n. nat_abs t.coef * n) is, unsigned_abs-mul t.coef (pos (suc d)), sum_by-cons (λ u. nat_abs u.coef) (record { mono = with_exponent i d t.mono; coef = t.coef *ℤ pos (suc d) }) (made_of (derivative i) ts))
+          omega (
+            arith,
+            later,
+            sum_by-cons weight t ts,
+            ap (λ n. nat_abs t.coef * n) is,
+            unsigned_abs-mul t.coef (pos (suc d)),
+            sum_by-cons (λ u. nat_abs u.coef) (record { mono = with_exponent i d t.mono; coef = t.coef *ℤ pos (suc d) })
+                (made_of (derivative i) ts),
+          )
 
   length-derivatives : (ts : List Term) → length (made_of (derivative i) ts) ≤ length ts
   length-derivatives [] = omega arith
@@ -110,28 +122,34 @@ module _ (i : ℕ) (known : i < 6) where
       by (suc d) later = omega arith
 
   value-derivatives : (ts : List Term) → poly_of_terms (made_of (derivative i) ts) ≡ derived (name_with i) (poly_of_terms ts)
-  value-derivatives [] = poly_of-none ∙ sym (derived-none (derived-sum (name_with i) polys.zero polys.zero)) ∙ ap (derived (name_with i)) (sym poly_of-none)
+  value-derivatives [] = poly_of-none ∙ sym (derived-none (derived-sum (name_with i) polys.zero polys.zero))
+      ∙ ap (derived (name_with i)) (sym poly_of-none)
     where
-      derived-none : derived (name_with i) (polys.◌+◌ polys.zero polys.zero) ≡ polys.◌+◌ (derived (name_with i) polys.zero) (derived (name_with i) polys.zero) → derived (name_with i) polys.zero ≡ polys.zero
+      derived-none : derived (name_with i) (polys.◌+◌ polys.zero polys.zero) ≡ polys.◌+◌ (derived (name_with i) polys.zero)
+          (derived (name_with i) polys.zero) → derived (name_with i) polys.zero ≡ polys.zero
       derived-none twice = none_added polys.group _ (ap (derived (name_with i)) (sym (polys.add_zero polys.zero)) ∙ twice)
   value-derivatives (t ∷ ts) =
       by (exp t.mono i) refl (value-derivatives ts)
       ∙ sym (ap (derived (name_with i)) (poly_of-cons t ts) ∙ derived-sum (name_with i) _ _)
     where
       by : (d : ℕ) → exp t.mono i ≡ d → poly_of_terms (made_of (derivative i) ts) ≡ derived (name_with i) (poly_of_terms ts)
-          → poly_of_terms (lowered i t d ++ made_of (derivative i) ts) ≡ polys.◌+◌ (derived (name_with i) (term t.mono t.coef)) (derived (name_with i) (poly_of_terms ts))
+          → poly_of_terms (lowered i t d ++ made_of (derivative i) ts) ≡ polys.◌+◌ (derived (name_with i) (term t.mono t.coef))
+          (derived (name_with i) (poly_of_terms ts))
       by zero is later =
-          later ∙ sym (ap (λ w. polys.◌+◌ w (derived (name_with i) (poly_of_terms ts))) (none_at (name_with i) t.mono t.coef (ap (exp t.mono) (place-name_with i known) ∙ is)) ∙ zero_add polys.group _)
+          later ∙ sym (ap (λ w. polys.◌+◌ w (derived (name_with i) (poly_of_terms ts)))
+          (none_at (name_with i) t.mono t.coef (ap (exp t.mono) (place-name_with i known) ∙ is)) ∙ zero_add polys.group _)
       by (suc d) is later =
           poly_of-cons (record { mono = with_exponent i d t.mono; coef = t.coef *ℤ pos (suc d) }) (made_of (derivative i) ts)
-          ∙ ap₂ polys.◌+◌ (ap₂ term (is_lower t.mono d is) (ap (λ n. t.coef *ℤ pos n) (sym is ∙ ap (exp t.mono) (sym (place-name_with i known))) ∙ ap (λ z. t.coef *ℤ z) (sym (power_at_is (name_with i) t.mono))) ∙ sym (derived-term (name_with i) t.mono t.coef)) later
+          ∙ ap₂ polys.◌+◌ (ap₂ term (is_lower t.mono d is) (ap (λ n. t.coef *ℤ pos n) (sym is ∙ ap (exp t.mono) (sym (place-name_with i known)))
+          ∙ ap (λ z. t.coef *ℤ z) (sym (power_at_is (name_with i) t.mono))) ∙ sym (derived-term (name_with i) t.mono t.coef)) later
 
   pub derivative_is :
       (ts v : List Term) → IsFalling ts → v ≡ made_of (derivative i) ts →
       IsListOf (derived (name_with i) (poly_of_terms ts)) (length ts) (derivative_size i ts) v
-  derivative_is ts v falling made = subst (IsListOf (derived (name_with i) (poly_of_terms ts)) (length ts) (derivative_size i ts)) (sym made) (record {
-    falling = falling-derivatives ts falling;
-    value = value-derivatives ts;
-    few = length-derivatives ts;
-    small = omega (arith, size-derivatives ts);
-  })
+  derivative_is ts v falling made = subst (IsListOf (derived (name_with i) (poly_of_terms ts)) (length ts) (derivative_size i ts)) (sym made)
+      (record {
+        falling = falling-derivatives ts falling;
+        value = value-derivatives ts;
+        few = length-derivatives ts;
+        small = omega (arith, size-derivatives ts);
+      })

@@ -42,7 +42,8 @@ row-quotients m d (e ∷ es) canonical each =
 up_cmp : (m x y : Mono) → mono_cmp (m · x) (m · y) ≡ mono_cmp x y
 up_cmp m x y = ap₂ mono_cmp (·_comm m x) (·_comm m y) ∙ mono_ordered.shifted m x y
 
-below_back : (e : Mono × ℤ) (n : Mono) (fs : List (Mono × ℤ)) → AllBelow monomials int_group (e.0 · n) (row_of e fs) → AllBelow monomials int_group n fs
+below_back : (e : Mono × ℤ) (n : Mono) (fs : List (Mono × ℤ)) → AllBelow monomials int_group (e.0 · n) (row_of e fs) →
+    AllBelow monomials int_group n fs
 below_back e n [] below = tt
 below_back e n (f ∷ fs) below = (subst (λ r. T (is_less r)) (up_cmp e.0 f.0 n) below.0, below_back e n fs below.1)
 
@@ -74,7 +75,8 @@ divided_whole m d p each =
 
 -- ---- the list
 
-pub size-quotients : (m : Mono) (d : ℤ) (es : List (Mono × ℤ)) → IsCanonical monomials int_group es → EachTerm (TermDivides m d) es → norm_of (quotients m d es) ≤ norm_of es
+pub size-quotients : (m : Mono) (d : ℤ) (es : List (Mono × ℤ)) → IsCanonical monomials int_group es → EachTerm (TermDivides m d) es →
+    norm_of (quotients m d es) ≤ norm_of es
 size-quotients m d [] canonical each = omega arith
 size-quotients m d (e ∷ es) canonical each = by each.0.1
   where

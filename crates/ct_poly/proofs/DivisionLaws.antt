@@ -23,7 +23,8 @@ unfolding checked_quotient
 ended p f o answer =
     let parts = both_fit (run dividing_rank (next_term f) (checked_step f) (whole_dividend p)) (λ s. Ok (found_quotient s)) o answer in
     let start : IsWhole p f (whole_dividend p) = ap (λ q. polys.◌+◌ q p) (zero_mul polys f) ∙ zero_add polys.group p in
-    let kept = run_keeps dividing_rank (next_term f) (checked_step f) (IsWhole p f) (λ s t u found done. whole_kept p f s t u done) (division_falls f) (whole_dividend p) parts.value start parts.first in
+    let kept = run_keeps dividing_rank (next_term f) (checked_step f) (IsWhole p f) (λ s t u found done. whole_kept p f s t u done) (division_falls f)
+    (whole_dividend p) parts.value start parts.first in
     record { state = parts.value; whole = kept.0; done = kept.1; found = inside (found_quotient parts.value) parts.rest }
   where
     inside : (a : Option Polynomial) → ◌≡◌ {A = Checked (Option Polynomial)} (Ok a) (Ok o) → a ≡ o

@@ -29,9 +29,11 @@ pub record StepFits (rest_count rest_norm by_count by_norm quotient_count quotie
 
 pub step_fits : (a b c d e g h : ℕ) → step_rules a b c d e g h ≡ None → StepFits a b c d e g h
 step_fits a b c d e g h none =
-    by (ltb most_terms (a + c)) (ltb most_terms (e + 1)) (ltb largest_norm (h * d)) (ltb largest_norm (b + h * d)) (ltb largest_norm (g + h)) refl refl refl refl none
+    by (ltb most_terms (a + c)) (ltb most_terms (e + 1)) (ltb largest_norm (h * d)) (ltb largest_norm (b + h * d))
+    (ltb largest_norm (g + h)) refl refl refl refl none
   where
-    by : (u v w x y : Bool) → ltb most_terms (a + c) ≡ u → ltb most_terms (e + 1) ≡ v → ltb largest_norm (b + h * d) ≡ x → ltb largest_norm (g + h) ≡ y
+    by : (u v w x y : Bool) → ltb most_terms (a + c) ≡ u → ltb most_terms (e + 1) ≡ v → ltb largest_norm (b + h * d) ≡ x →
+        ltb largest_norm (g + h) ≡ y
         → broken u Terms (broken v Terms (broken w Number (broken x Number (broken y Number None)))) ≡ None → StepFits a b c d e g h
     by true v w x y p q r s fits = cc
     by false true w x y p q r s fits = cc
@@ -127,10 +129,12 @@ module _ {p f : Polynomial} {rest quotient divisor : List Term} {size : ℕ} (ke
 
     one_step : outcome f s ≡ (checked_step f (entry u) s >>= outcome f)
     one_step =
-        ap (λ r. r >>= (λ s. Ok (found_quotient s))) (run_step dividing_rank (next_term f) (checked_step f) (division_falls f) s (entry u) (found_next ∙ some))
+        ap (λ r. r >>= (λ s. Ok (found_quotient s)))
+        (run_step dividing_rank (next_term f) (checked_step f) (division_falls f) s (entry u) (found_next ∙ some))
         ∙ inside (checked_step f (entry u) s)
       where
-        inside : (c : Checked Dividing) → (c >>= run dividing_rank (next_term f) (checked_step f)) >>= (λ s. Ok (found_quotient s)) ≡ (c >>= outcome f)
+        inside : (c : Checked Dividing) → (c >>= run dividing_rank (next_term f) (checked_step f)) >>= (λ s. Ok (found_quotient s)) ≡
+            (c >>= outcome f)
         inside (Ok t) = refl
         inside (Err kind) = refl
 
@@ -155,14 +159,17 @@ module _ {p f : Polynomial} {rest quotient divisor : List Term} {size : ℕ} (ke
 
     pub division_more :
         (v more : List Term) (next : ℕ) → None ≡ rules →
-        IsListOf (minus (poly_of_terms rest) (times (term u.mono u.coef) (poly_of_terms divisor))) (length rest + length divisor) (size_of rest + unsigned_abs u.coef * size_of divisor) v →
+        IsListOf (minus (poly_of_terms rest) (times (term u.mono u.coef) (poly_of_terms divisor))) (length rest + length divisor)
+        (size_of rest + unsigned_abs u.coef * size_of divisor) v →
         more ≡ quotient ++ u ∷ [] → next ≡ size + unsigned_abs u.coef → IsDivision p f v more next
     unfolding checked_step step_of
     division_more v more next none left more_is next_is = subst (λ q. IsDivision p f v q next) (sym more_is) (record {
       rest_short = (left.falling, omega (arith, left.few, fits.few), omega (arith, left.small, fits.small));
       quotient_short = (
         subst (IsCanonical monomials int_group) (sym (entries-append quotient (u ∷ [])))
-            (canonical_end (entries quotient) (entry u) d.quotient_short.0 (lower (entries quotient) (d.above is_next.lead is_next.others is_next.by_is)) (nonzero_coef u.coef (coef_nonzero f s (entry u) is_next))),
+            (canonical_end (entries quotient) (entry u) d.quotient_short.0
+            (lower (entries quotient) (d.above is_next.lead is_next.others is_next.by_is))
+            (nonzero_coef u.coef (coef_nonzero f s (entry u) is_next))),
         omega (arith, fits.room, length-append quotient (u ∷ [])),
         omega (arith, fits.fits, d.size_is, size_end),
       );
@@ -181,17 +188,21 @@ module _ {p f : Polynomial} {rest quotient divisor : List Term} {size : ℕ} (ke
         stepped : step_of f (entry u) s ≡ dividing v (quotient ++ u ∷ [])
         stepped = λ i. record {
           rest = (ap (λ w. minus (poly_of_terms rest) (times (term u.mono u.coef) w)) (sym kept.value) ∙ sym left.value) i;
-          quotient = (plus_is (poly_of_terms quotient) (term u.mono u.coef) ∙ sym (poly_of-append quotient (u ∷ []) ∙ ap (polys.◌+◌ (poly_of_terms quotient)) (poly_of-one u))) i;
+          quotient = (plus_is (poly_of_terms quotient) (term u.mono u.coef)
+              ∙ sym (poly_of-append quotient (u ∷ []) ∙ ap (polys.◌+◌ (poly_of_terms quotient)) (poly_of-one u))) i;
         }
 
         top_below : AllBelow monomials int_group is_next.top.0 (entries v)
-        top_below = subst (AllBelow monomials int_group is_next.top.0) (sym (stepped_terms v left.falling left.value)) (all_below is_next.top.0 _ (rest_below f s (entry u) is_next))
+        top_below = subst (AllBelow monomials int_group is_next.top.0) (sym (stepped_terms v left.falling left.value))
+            (all_below is_next.top.0 _ (rest_below f s (entry u) is_next))
 
         top_in : (m : Mono) → AllBelow monomials int_group m (entries rest) → mono_cmp is_next.top.0 m ≡ Less
         top_in m below = less_is monomials int_group _ (subst (AllBelow monomials int_group m) (rest_terms ∙ is_next.rest_is) below).0
 
-        lower : (es : List (Mono × ℤ)) → EachTerm (λ k c. AllBelow monomials int_group (k · is_next.lead.0) (entries rest)) es → EachTerm (λ k c. mono_cmp u.mono k ≡ Less) es
-        lower es each = EachTerm-weaker (λ k c below. sym (mono_ordered.shifted is_next.lead.0 u.mono k) ∙ ap (λ w. mono_cmp w (k · is_next.lead.0)) is_next.mono ∙ top_in (k · is_next.lead.0) below) es each
+        lower : (es : List (Mono × ℤ)) → EachTerm (λ k c. AllBelow monomials int_group (k · is_next.lead.0) (entries rest)) es →
+            EachTerm (λ k c. mono_cmp u.mono k ≡ Less) es
+        lower es each = EachTerm-weaker (λ k c below. sym (mono_ordered.shifted is_next.lead.0 u.mono k)
+            ∙ ap (λ w. mono_cmp w (k · is_next.lead.0)) is_next.mono ∙ top_in (k · is_next.lead.0) below) es each
 
         head_mono : Mono → List (Mono × ℤ) → Mono
         head_mono m [] = m
@@ -202,22 +213,26 @@ module _ {p f : Polynomial} {rest quotient divisor : List Term} {size : ℕ} (ke
             let lead : is_next.lead.0 ≡ b.0 = ap (head_mono b.0) (sym is_next.by_is ∙ f_is) in
             subst (EachTerm (λ k c. AllBelow monomials int_group (k · b.0) (entries v))) (sym (entries-append quotient (u ∷ [])))
             (EachTerm-append _ (entries quotient) (entry u ∷ [])
-            (EachTerm-weaker (λ k c below. AllBelow_trans monomials int_group is_next.top.0 (k · b.0) (entries v) (top_in (k · b.0) below) top_below) (entries quotient) (d.above b bs f_is))
+            (EachTerm-weaker (λ k c below. AllBelow_trans monomials int_group is_next.top.0 (k · b.0) (entries v) (top_in (k · b.0) below) top_below)
+            (entries quotient) (d.above b bs f_is))
             (subst (λ m. AllBelow monomials int_group m (entries v)) (sym (ap (λ w. u.mono · w) (sym lead) ∙ is_next.mono)) top_below, tt))
 
   module _ (none : found ≡ None) where
     finished : checked_quotient p f ≡ Ok (found_quotient s)
     finished =
-        d.goes_on ∙ ap (λ r. r >>= (λ s. Ok (found_quotient s))) (run_done dividing_rank (next_term f) (checked_step f) (division_falls f) s (found_next ∙ none))
+        d.goes_on ∙ ap (λ r. r >>= (λ s. Ok (found_quotient s)))
+        (run_done dividing_rank (next_term f) (checked_step f) (division_falls f) s (found_next ∙ none))
 
     pub division_found : length rest ≡ 0 → checked_quotient p f ≡ Ok (Some (poly_of_terms quotient))
     unfolding found_quotient
     division_found empty =
-        finished ∙ ap (λ es. Ok (cond (has_none monomials int_group es) (Some (poly_of_terms quotient)) None)) (sym rest_terms ∙ ap entries (no_length rest empty))
+        finished ∙ ap (λ es. Ok (cond (has_none monomials int_group es) (Some (poly_of_terms quotient)) None))
+        (sym rest_terms ∙ ap entries (no_length rest empty))
 
     pub division_fails : (length rest ≡ 0 → ⊥) → checked_quotient p f ≡ Ok None
     unfolding found_quotient
-    division_fails some = finished ∙ ap (λ b. Ok (cond b (Some (poly_of_terms quotient)) None)) (ap (has_none monomials int_group) (sym rest_terms) ∙ full rest some)
+    division_fails some =
+        finished ∙ ap (λ b. Ok (cond b (Some (poly_of_terms quotient)) None)) (ap (has_none monomials int_group) (sym rest_terms) ∙ full rest some)
       where
         full : (ts : List Term) → (length ts ≡ 0 → ⊥) → has_none monomials int_group (entries ts) ≡ false
         full [] some = absurd (some refl)

@@ -111,7 +111,8 @@ module _ (f : Polynomial) (s : Dividing) (u : Mono × ℤ) (n : IsNext s.rest.te
 
   pub rank_falls : dividing_rank (step_of f u s) < dividing_rank s
   unfolding dividing_rank
-  rank_falls = subst (λ es. leading_rank (leading (step_of f u s).rest.terms) < leading_rank (leading es)) (sym n.rest_is) (lower (step_of f u s).rest.terms rest_below)
+  rank_falls = subst (λ es. leading_rank (leading (step_of f u s).rest.terms) < leading_rank (leading es)) (sym n.rest_is)
+      (lower (step_of f u s).rest.terms rest_below)
     where
       lower : (es : List (Mono × ℤ)) → EachBelow n.top.0 es → leading_rank (leading es) < leading_rank (Some n.top)
       lower [] below = omega arith

@@ -31,7 +31,8 @@ zero_of : poly_of [] ≡ polys.zero
 unfolding poly_of
 zero_of = sum_of-none monomials int_group
 
-module _ (f : Polynomial) (b : Mono × ℤ) (bs : List (Mono × ℤ)) (f_is : f.terms ≡ b ∷ bs) (q : Polynomial) (q_few : count q ≤ most_terms) (q_fits : norm q ≤ largest_norm) where
+module _ (f : Polynomial) (b : Mono × ℤ) (bs : List (Mono × ℤ)) (f_is : f.terms ≡ b ∷ bs) (q : Polynomial) (q_few : count q ≤ most_terms)
+    (q_fits : norm q ≤ largest_norm) where
   -- hs are the terms of the quotient that are left
   record Leaves (hs : List (Mono × ℤ)) (s : Dividing) : Type 0 where
     whole : polys.◌+◌ s.quotient (poly_of hs) ≡ q
@@ -131,10 +132,12 @@ module _ (f : Polynomial) (b : Mono × ℤ) (bs : List (Mono × ℤ)) (f_is : f.
       (hs : List (Mono × ℤ)) (s : Dividing) → IsCanonical monomials int_group hs → Leaves hs s →
       (run dividing_rank (next_term f) (checked_step f) s >>= (λ s. Ok (found_quotient s))) ≡ Ok (Some q)
   finds [] s falling l =
-      ap (λ r. r >>= (λ s. Ok (found_quotient s))) (run_done dividing_rank (next_term f) (checked_step f) (division_falls f) s (done s l)) ∙ ap (λ o. Ok o) (found s l)
+      ap (λ r. r >>= (λ s. Ok (found_quotient s))) (run_done dividing_rank (next_term f) (checked_step f) (division_falls f) s (done s l))
+      ∙ ap (λ o. Ok o) (found s l)
   finds (a ∷ hs) s falling l =
       ap (λ r. r >>= (λ s. Ok (found_quotient s)))
-      (run_more dividing_rank (next_term f) (checked_step f) (division_falls f) s (step_of f a s) a (next_is_first a hs falling s l) (step_passes a hs falling s l))
+      (run_more dividing_rank (next_term f) (checked_step f) (division_falls f) s (step_of f a s) a (next_is_first a hs falling s l)
+      (step_passes a hs falling s l))
       ∙ finds hs (step_of f a s) falling.2 (still a hs falling s l)
 
 pub fitting_quotient :

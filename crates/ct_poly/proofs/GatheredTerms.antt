@@ -20,7 +20,11 @@ pub comparing_more :
 comparing_more {ts} {rest} {more} {last} {t} rest_is some greater comparing =
     let at : IsComparing ts last (t ∷ more) = subst (IsComparing ts last) rest_is comparing in
     record {
-      falls = λ later. at.falls (nonzero_coef last.coef some, (lower, AllBelow_trans monomials int_group t.mono last.mono (entries more) less later.1), later);
+      falls = λ later. at.falls (
+        nonzero_coef last.coef some,
+        (lower, AllBelow_trans monomials int_group t.mono last.mono (entries more) less later.1),
+        later,
+      );
       single = λ short. absurd (omega (arith, short, ap length (at.single short)));
     }
   where
@@ -32,7 +36,8 @@ comparing_more {ts} {rest} {more} {last} {t} rest_is some greater comparing =
 
 -- ---- gathering
 
-pub gathered_none : (ts : List Term) {v : List Term} → length ts ≤ 1 → size_of ts ≡ 0 → v ≡ [] → IsListOf (poly_of_terms ts) (length ts) (size_of ts) v
+pub gathered_none : (ts : List Term) {v : List Term} → length ts ≤ 1 → size_of ts ≡ 0 → v ≡ [] →
+    IsListOf (poly_of_terms ts) (length ts) (size_of ts) v
 gathered_none ts {v} short none empty =
     subst (IsListOf (poly_of_terms ts) (length ts) (size_of ts)) (sym empty)
     (record { falling = tt; value = poly_of-none ∙ sym (zero ts short none); few = omega arith; small = omega arith })

@@ -89,7 +89,8 @@ block_counted {m} {p} {number} {rest} [] b c = absurd b.above
 block_counted {m} {p} {number} {rest} (a ∷ more) b c =
     let d : IsCounting m p number (b.block ++ a ∷ more) = subst (IsCounting m p number) b.whole c in
     record {
-      falling = merging.back_canonical monomials int_group (entries b.block) (entries (a ∷ more)) (subst (IsCanonical monomials int_group) (entries-append b.block (a ∷ more)) d.falling);
+      falling = merging.back_canonical monomials int_group (entries b.block) (entries (a ∷ more))
+          (subst (IsCanonical monomials int_group) (entries-append b.block (a ∷ more)) d.falling);
       count = omega (arith, d.count, b.long, block_above m b.block a more d.falling b.above);
       lengths = omega (arith, d.lengths, b.long, length-append b.block (a ∷ more));
     }
@@ -121,11 +122,14 @@ merging_alone :
     (ps qs done : List (Mono × ℤ)) (f : Mono × ℤ) (q : List (Mono × ℤ)) →
     merging.IsMerging monomials int_group ps qs done [] (f ∷ q) → merging.IsMerging monomials int_group ps qs (done ++ f ∷ []) [] q
 merging_alone ps qs done f q h =
-    let whole : IsCanonical monomials int_group ((done ++ f ∷ []) ++ q) = subst (IsCanonical monomials int_group) (sym (append_assoc done (f ∷ []) q)) h.right in
+    let whole : IsCanonical monomials int_group ((done ++ f ∷ []) ++ q) =
+    subst (IsCanonical monomials int_group) (sym (append_assoc done (f ∷ []) q)) h.right in
     record {
-      left = subst (IsCanonical monomials int_group) (sym (append-nil (done ++ f ∷ []))) (merging.front_canonical monomials int_group (done ++ f ∷ []) q whole);
+      left = subst (IsCanonical monomials int_group) (sym (append-nil (done ++ f ∷ [])))
+          (merging.front_canonical monomials int_group (done ++ f ∷ []) q whole);
       right = whole;
-      values = λ k. ap (λ z. z +ℤ (pos 0 +ℤ value_at monomials int_group q k)) (merging.sum_over-append int_group (pick monomials int_group k) done (f ∷ []))
+      values = λ k. ap (λ z. z +ℤ (pos 0 +ℤ value_at monomials int_group q k))
+          (merging.sum_over-append int_group (pick monomials int_group k) done (f ∷ []))
           ∙ regroup (value_at monomials int_group done k) (pick monomials int_group k f.0 f.1) (value_at monomials int_group q k) ∙ h.values k;
     }
   where
@@ -164,7 +168,14 @@ can_rest {t} {b} {q} can = record {
 pub size-multiples : (t : Term) (qs : List Term) → size_of (multiples t qs) ≡ nat_abs t.coef * size_of qs
 size-multiples t [] = omega arith
 size-multiples t (u ∷ qs) =
-    omega (arith, size-multiples t qs, sum_by-cons size u qs, sum_by-cons size (times_term t u) (multiples t qs), unsigned_abs-mul t.coef u.coef, ap (λ n. nat_abs t.coef * n) (sum_by-cons size u qs))
+    omega (
+      arith,
+      size-multiples t qs,
+      sum_by-cons size u qs,
+      sum_by-cons size (times_term t u) (multiples t qs),
+      unsigned_abs-mul t.coef u.coef,
+      ap (λ n. nat_abs t.coef * n) (sum_by-cons size u qs),
+    )
 
 pub accumulation_start :
     {ps : List Term} {t : Term} {qs done : List Term} → IsFalling ps → CanMultiply (t ∷ []) qs → done ≡ [] → IsAccumulating ps t qs done ps qs
@@ -179,7 +190,8 @@ module _ {ps : List Term} {t : Term} {qs done p q q' : List Term} {b : Term} (q_
 
   module _ {front back : List Term} (whole : p ≡ front ++ back) (split : IsSplit (t.mono · b.mono) front back) where
     behind : IsMerging ps (multiples t qs) (done ++ front) back (times_term t b ∷ multiples t q')
-    behind = many_taken front back refl split.above (subst (λ w. IsMerging ps (multiples t qs) done w (times_term t b ∷ multiples t q')) whole here.merging)
+    behind = many_taken front back refl split.above
+        (subst (λ w. IsMerging ps (multiples t qs) done w (times_term t b ∷ multiples t q')) whole here.merging)
 
     pub meeting_small : size_of ps + nat_abs t.coef * size_of qs ≤ largest_norm → size_of back + nat_abs (t.coef *ℤ b.coef) ≤ largest_norm
     meeting_small small =
@@ -196,7 +208,8 @@ module _ {ps : List Term} {t : Term} {qs done p q q' : List Term} {b : Term} (q_
               let sum : Term = record { mono = t.mono · b.mono; coef = c } in
               let kept = terms.sum_kept monomials int_group entry (done ++ front) sum more_is j.sum (λ zero. some (j.sum ∙ zero)) in
               terms.both_met monomials int_group entry j.full refl j.tied
-              (subst (λ m. entries more ≡ entries (done ++ front) ++ keep monomials int_group m (j.head.coef +ℤ t.coef *ℤ b.coef) []) (sym (mono_tied j.head.mono (t.mono · b.mono) j.tied)) kept) behind
+              (subst (λ m. entries more ≡ entries (done ++ front) ++ keep monomials int_group m (j.head.coef +ℤ t.coef *ℤ b.coef) [])
+              (sym (mono_tied j.head.mono (t.mono · b.mono) j.tied)) kept) behind
 
           alone : Precedes back (times_term t b) c rest → IsMerging ps (multiples t qs) more rest (multiples t q')
           alone a =
@@ -210,10 +223,13 @@ module _ {ps : List Term} {t : Term} {qs done p q q' : List Term} {b : Term} (q_
           joined : Joins back (times_term t b) c rest → IsMerging ps (multiples t qs) more rest (multiples t q')
           joined j =
               subst (λ d. IsMerging ps (multiples t qs) d rest (multiples t q')) (sym more_is)
-              (terms.both_met monomials int_group entry j.full refl j.tied (terms.sum_gone monomials int_group entry (done ++ front) j.head.mono (sym j.sum ∙ none)) behind)
+              (terms.both_met monomials int_group entry j.full refl j.tied
+              (terms.sum_gone monomials int_group entry (done ++ front) j.head.mono (sym j.sum ∙ none)) behind)
 
           alone : Precedes back (times_term t b) c rest → IsMerging ps (multiples t qs) more rest (multiples t q')
-          alone a = absurd (not_zero monomials int_group (t.coef *ℤ b.coef) (merging.back_canonical monomials int_group (entries (done ++ front)) (entries (times_term t b ∷ multiples t q')) behind.merging.right).0 (sym a.coef ∙ none))
+          alone a = absurd (not_zero monomials int_group (t.coef *ℤ b.coef)
+              (merging.back_canonical monomials int_group (entries (done ++ front))
+              (entries (times_term t b ∷ multiples t q')) behind.merging.right).0 (sym a.coef ∙ none))
 
 pub falling_left :
     {ps : List Term} {t : Term} {qs done p q : List Term} → IsAccumulating ps t qs done p q → IsFalling p
@@ -222,10 +238,12 @@ falling_left {ps} {t} {qs} {done} {p} l = merging.back_canonical monomials int_g
 pub accumulation_ended :
     {ps : List Term} {t : Term} {qs done all p q : List Term} → IsFalling ps → CanMultiply (t ∷ []) qs → length q ≡ 0 → all ≡ done ++ p →
     IsAccumulating ps t qs done p q →
-    IsListOf (plus (poly_of_terms ps) (times (poly_of_terms (t ∷ [])) (poly_of_terms qs))) (length ps + length qs) (size_of ps + nat_abs t.coef * size_of qs) all
+    IsListOf (plus (poly_of_terms ps) (times (poly_of_terms (t ∷ [])) (poly_of_terms qs))) (length ps + length qs)
+    (size_of ps + nat_abs t.coef * size_of qs) all
 accumulation_ended {ps} {t} {qs} {done} {all} {p} {q} falling can empty all_is l =
     let products = multiple_is t qs (multiples t qs) can refl in
-    let end = sum_is falling products.falling (terms.second_ended monomials int_group entry products.falling (ap (multiples t) (no_length q empty)) all_is l.merging) in
+    let end = sum_is falling products.falling
+    (terms.second_ended monomials int_group entry products.falling (ap (multiples t) (no_length q empty)) all_is l.merging) in
     record {
       falling = end.falling;
       value = end.value ∙ ap (plus (poly_of_terms ps)) products.value;

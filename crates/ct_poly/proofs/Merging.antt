@@ -108,7 +108,8 @@ module _ {X M A : Type 0} (O : Keys M) (G : Group A) (entry : X → M × A) wher
         sizes = λ size lower.
             let w : M × A → ℕ = λ e. size e.1 in
             let v : X → ℕ = λ t. size (entry t).1 in
-            let parts : sum_by w (map entry more) ≡ sum_by w (map entry done) + sum_by w es = ap (sum_by w) is ∙ sum_by-append w (map entry done) es in
+            let parts : sum_by w (map entry more) ≡ sum_by w (map entry done) + sum_by w es =
+            ap (sum_by w) is ∙ sum_by-append w (map entry done) es in
             let made_of : sum_by v more ≡ sum_by v done + sum_by w es = omega (arith, sum_by-entries w more, parts, sum_by-entries w done) in
             omega (arith, g.sizes size lower, lower (entry a).1 (entry b).1, small size, made_of, sum_by-cons v a p', sum_by-cons v b q');
       }

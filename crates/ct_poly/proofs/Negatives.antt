@@ -29,7 +29,14 @@ falling-negatives (t ∷ ts) falling = (nonzero-neg t.coef falling.0, below-nega
 size-negatives : (ts : List Term) → size_of (negatives ts) ≡ size_of ts
 size-negatives [] = refl
 size-negatives (t ∷ ts) =
-    omega (arith, ints, size-negatives ts, sum_by-cons (λ u. nat_abs u.coef) t ts, sum_by-cons (λ u. nat_abs u.coef) (record { mono = t.mono; coef = neg_ℤ t.coef }) (negatives ts), abs-neg t.coef)
+    omega (
+      arith,
+      ints,
+      size-negatives ts,
+      sum_by-cons (λ u. nat_abs u.coef) t ts,
+      sum_by-cons (λ u. nat_abs u.coef) (record { mono = t.mono; coef = neg_ℤ t.coef }) (negatives ts),
+      abs-neg t.coef,
+    )
   where
     abs-neg : (c : ℤ) → nat_abs (neg_ℤ c) ≡ nat_abs c
     abs-neg (pos zero) = refl
@@ -40,7 +47,8 @@ length-negatives : (ts : List Term) → length (negatives ts) ≡ length ts
 length-negatives [] = refl
 length-negatives (t ∷ ts) = ap (λ n. suc n) (length-negatives ts)
 
-value-negatives : (ts : List Term) (k : Mono) → value_at monomials int_group (entries (negatives ts)) k ≡ neg_ℤ (value_at monomials int_group (entries ts) k)
+value-negatives : (ts : List Term) (k : Mono) →
+    value_at monomials int_group (entries (negatives ts)) k ≡ neg_ℤ (value_at monomials int_group (entries ts) k)
 value-negatives [] k = refl
 value-negatives (t ∷ ts) k =
     ap₂ int_group.◌+◌ (picked (mono_cmp t.mono k) t.coef) (value-negatives ts k)

@@ -95,7 +95,8 @@ pub record ProductFits (p q : Polynomial) : Type 0 where
 
 pub product_fits_only : (p q : Polynomial) → 0 < count p * count q → product_overflow p q ≡ None → ProductFits p q
 product_fits_only p q some none =
-    by (ltb largest_degree (degree p + degree q)) (ltb most_terms (count p * count q)) (ltb largest_norm (norm p * norm q)) refl refl refl (sym (product_nonzero p q some) ∙ none)
+    by (ltb largest_degree (degree p + degree q)) (ltb most_terms (count p * count q)) (ltb largest_norm (norm p * norm q)) refl refl refl
+    (sym (product_nonzero p q some) ∙ none)
   where
     by : (a b d : Bool) → ltb largest_degree (degree p + degree q) ≡ a → ltb most_terms (count p * count q) ≡ b
         → ltb largest_norm (norm p * norm q) ≡ d → broken a Degree (broken b Terms (broken d Number None)) ≡ None → ProductFits p q
@@ -116,9 +117,12 @@ derivative_fits i p small = is_kept _ Number _ (le-ltb _ _ small)
 
 -- ---- shifts by a positive number
 
-shift_rules : (i : Name) (a : ℕ) (p : Polynomial) → 0 < a → shift_overflow i a p ≡ broken (ltb most_terms (shift_count i p)) Terms (broken (ltb largest_norm (shift_norm i a p)) Number None)
+shift_rules : (i : Name) (a : ℕ) (p : Polynomial) → 0 < a →
+    shift_overflow i a p ≡ broken (ltb most_terms (shift_count i p)) Terms (broken (ltb largest_norm (shift_norm i a p)) Number None)
 unfolding shift_overflow
-shift_rules i a p some = ap (λ b. broken (cond b (ltb most_terms (shift_count i p)) false) Terms (broken (ltb largest_norm (shift_norm i a p)) Number None)) (lt-ltb _ _ some)
+shift_rules i a p some =
+    ap (λ b. broken (cond b (ltb most_terms (shift_count i p)) false) Terms (broken (ltb largest_norm (shift_norm i a p)) Number None))
+    (lt-ltb _ _ some)
 
 pub shift_too_many : (i : Name) (a : ℕ) (p : Polynomial) → 0 < a → most_terms < shift_count i p → shift_overflow i a p ≡ Some Terms
 shift_too_many i a p some many = shift_rules i a p some ∙ is_broken _ Terms _ (lt-ltb _ _ many)

@@ -82,7 +82,8 @@ quotient_tied whole m n q o divides compared = (
 inside_is : (js : List Name) (e m : Mono) → e · outside js m ≡ m → inside js m ≡ e
 inside_is js e m product =
     let whole : inside js m · outside js m ≡ m = ·_comm (inside js m) (outside js m) ∙ outside-inside js m in
-    let same : Some (inside js m) ≡ Some e = sym (over-· (inside js m) (outside js m)) ∙ ap (λ w. over w (outside js m)) (whole ∙ sym product) ∙ over-· e (outside js m) in cc
+    let same : Some (inside js m) ≡ Some e = sym (over-· (inside js m) (outside js m)) ∙ ap (λ w. over w (outside js m)) (whole ∙ sym product)
+    ∙ over-· e (outside js m) in cc
 
 taken : (js : List Name) (e : Mono) (d : Mono × ℤ) → e · outside js d.0 ≡ d.0 → term_list_in js e d ≡ (outside js d.0, d.1) ∷ []
 taken js e d product =
@@ -124,7 +125,8 @@ pub left_out :
 left_out {js} {e} {ts} {done} {rest} {more} {t} {others} rest_is others_is other before =
     let g : IsChoosing js e ts done (t ∷ more) = subst (IsChoosing js e ts done) rest_is before in
     record {
-      made = ap (λ w. entries done ++ (w ++ terms_in js e (entries more))) (sym (passed js e (entry t) (λ product. other (ap (λ w. e · w) others_is ∙ product))))
+      made = ap (λ w. entries done ++ (w ++ terms_in js e (entries more)))
+          (sym (passed js e (entry t) (λ product. other (ap (λ w. e · w) others_is ∙ product))))
           ∙ g.made;
     }
 
@@ -140,7 +142,8 @@ below_outside :
     (js : List Name) (e m n : Mono) → inside js m ≡ e → inside js n ≡ e → mono_cmp m n ≡ Less → mono_cmp (outside js m) (outside js n) ≡ Less
 below_outside js e m n first second less =
     sym (mono_ordered.shifted e (outside js m) (outside js n))
-    ∙ ap₂ mono_cmp (ap (λ w. outside js m · w) (sym first) ∙ outside-inside js m) (ap (λ w. outside js n · w) (sym second) ∙ outside-inside js n) ∙ less
+    ∙ ap₂ mono_cmp (ap (λ w. outside js m · w) (sym first) ∙ outside-inside js m) (ap (λ w. outside js n · w) (sym second) ∙ outside-inside js n)
+    ∙ less
 
 below_in :
     (js : List Name) (e m : Mono) (es : List (Mono × ℤ)) → inside js m ≡ e → AllBelow monomials int_group m es →

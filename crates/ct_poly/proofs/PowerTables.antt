@@ -25,14 +25,20 @@ pub record AreRows (i a n : ℕ) (rows : List (Vec Term)) : Type 0 where
 -- ---- the name plus the number
 
 module _ (i : ℕ) (known : i < 6) (a : ℕ) (positive : 0 < a) where
-  module _ (t u : Term) (v : List Term) (t_mono : t.mono ≡ symbol (name_with i)) (t_coef : t.coef ≡ pos 1) (u_mono : u.mono ≡ unit) (u_coef : u.coef ≡ pos a) (both : v ≡ t ∷ u ∷ []) where
+  module _ (t u : Term) (v : List Term) (t_mono : t.mono ≡ symbol (name_with i)) (t_coef : t.coef ≡ pos 1) (u_mono : u.mono ≡ unit)
+      (u_coef : u.coef ≡ pos a) (both : v ≡ t ∷ u ∷ []) where
     lower : mono_cmp u.mono t.mono ≡ Less
     lower = less_of_total u.mono t.mono (omega (arith, ap total u_mono, total-unit, ap total t_mono, total-symbol i known))
 
     pub binomial_listed : IsListOf (binomial i a) 2 (1 + a) v
     binomial_listed = subst (IsListOf (binomial i a) 2 (1 + a)) (sym both) (record {
-      falling = (subst (λ c. T (cond (int_is_zero c) false true)) (sym t_coef) tt, (subst (λ r. T (is_less r)) (sym lower) tt, tt), (subst (λ c. T (cond (int_is_zero c) false true)) (sym u_coef) (positive_coef a positive), tt, tt));
-      value = poly_of-cons t (u ∷ []) ∙ ap₂ polys.◌+◌ (ap₂ term t_mono t_coef ∙ sym (name_is (name_with i))) (poly_of-one u ∙ ap₂ term u_mono u_coef ∙ sym (number_is (pos a))) ∙ sym (plus_is _ _);
+      falling = (
+        subst (λ c. T (cond (int_is_zero c) false true)) (sym t_coef) tt,
+        (subst (λ r. T (is_less r)) (sym lower) tt, tt),
+        (subst (λ c. T (cond (int_is_zero c) false true)) (sym u_coef) (positive_coef a positive), tt, tt),
+      );
+      value = poly_of-cons t (u ∷ []) ∙ ap₂ polys.◌+◌ (ap₂ term t_mono t_coef ∙ sym (name_is (name_with i)))
+          (poly_of-one u ∙ ap₂ term u_mono u_coef ∙ sym (number_is (pos a))) ∙ sym (plus_is _ _);
       few = omega arith;
       small = omega (arith, sum_by-cons size t (u ∷ []), sum_by-cons size u [], ap nat_abs t_coef, ap nat_abs u_coef);
     })
@@ -58,7 +64,8 @@ module _ (i : ℕ) (known : i < 6) (a : ℕ) (positive : 0 < a) where
       first = list.falling;
       second = power.falling;
       degrees = omega (arith, low, power_low i known a positive e row power);
-      sizes = let most : (1 + a) ^ suc e ≤ (1 + a) ^ highest = pow-le-pow_right {n = 1 + a} (omega arith) {i = suc e} {j = highest} (omega arith) in omega (arith, sizes, most, small);
+      sizes = let most : (1 + a) ^ suc e ≤ (1 + a) ^ highest = pow-le-pow_right {n = 1 + a} (omega arith) {i = suc e} {j = highest} (omega arith) in
+          omega (arith, sizes, most, small);
     }
 
     pub next_is_power :
@@ -66,14 +73,16 @@ module _ (i : ℕ) (known : i < 6) (a : ℕ) (positive : 0 < a) where
         IsPower i a (suc e) v
     next_is_power v l = record { falling = l.falling; value = l.value ∙ ap₂ times list.value power.value; small = omega (arith, l.small, sizes) }
 
-  pub first_row : (rows : List (Vec Term)) (row : Vec Term) (t : Term) → rows ≡ row ∷ [] → row.items ≡ t ∷ [] → t.mono ≡ unit → t.coef ≡ pos 1 → AreRows i a 1 rows
+  pub first_row : (rows : List (Vec Term)) (row : Vec Term) (t : Term) → rows ≡ row ∷ [] → row.items ≡ t ∷ [] → t.mono ≡ unit → t.coef ≡ pos 1 →
+      AreRows i a 1 rows
   first_row rows row t one list mono coef = subst (AreRows i a 1) (sym one) (record { few = refl; powers = at })
     where
       at : (e : ℕ) (d : Vec Term) → e < 1 → IsPower i a e (get_or (row ∷ []) e d).items
       at zero d small = first_is_power row.items t list mono coef
       at (suc e) d small = absurd (omega arith)
 
-  pub next_row : (n : ℕ) (rows more : List (Vec Term)) (row : Vec Term) → AreRows i a n rows → IsPower i a n row.items → more ≡ rows ++ row ∷ [] → AreRows i a (n + 1) more
+  pub next_row : (n : ℕ) (rows more : List (Vec Term)) (row : Vec Term) → AreRows i a n rows → IsPower i a n row.items → more ≡ rows ++ row ∷ [] →
+      AreRows i a (n + 1) more
   next_row n rows more row so_far power pushed = subst (AreRows i a (n + 1)) (sym pushed) (record {
     few = omega (arith, so_far.few, length-append rows (row ∷ []));
     powers = λ e d small. by e d small (eqb e n) refl;
@@ -82,7 +91,8 @@ module _ (i : ℕ) (known : i < 6) (a : ℕ) (positive : 0 < a) where
       by : (e : ℕ) (d : Vec Term) → e < n + 1 → (b : Bool) → eqb e n ≡ b → IsPower i a e (get_or (rows ++ row ∷ []) e d).items
       by e d small true last =
           let same : e ≡ n = eqb→eq _ _ (subst T (sym last) tt) in
-          subst (λ w. IsPower i a e w.items) (sym (get_or_push rows row d e (omega (arith, so_far.few)))) (subst (λ k. IsPower i a k row.items) (sym same) power)
+          subst (λ w. IsPower i a e w.items) (sym (get_or_push rows row d e (omega (arith, so_far.few))))
+          (subst (λ k. IsPower i a k row.items) (sym same) power)
       by e d small false before =
           let apart : e ≡ n → ⊥ = eqb-false e n before in
           let below : e < length rows = omega (arith, so_far.few, apart) in

@@ -42,7 +42,8 @@ EachTerm-both S Q (e ∷ es) s q = ((s.0, q.0), EachTerm-both S Q es s.1 q.1)
 
 pub goes_each : (p : Polynomial) (m : Mono) → EachTerm (λ k c. Divides m k) p.terms → EachTerm (TermDivides m (signed_content p)) p.terms
 goes_each p m each =
-    EachTerm-weaker (λ k c both. goes_in p m k c both.0 both.1) p.terms (EachTerm-both (λ k c. Divides m k) (λ k c. content p ∣ unsigned_abs c) p.terms each ((content_is p (content p)).0 (dvd_refl (content p))))
+    EachTerm-weaker (λ k c both. goes_in p m k c both.0 both.1) p.terms
+    (EachTerm-both (λ k c. Divides m k) (λ k c. content p ∣ unsigned_abs c) p.terms each ((content_is p (content p)).0 (dvd_refl (content p))))
 
 unit_divides : (es : List (Mono × ℤ)) → EachTerm (λ k c. Divides unit k) es
 unit_divides [] = tt
@@ -154,7 +155,14 @@ divides_more :
     EachTerm (λ k c. Divides (t · m) k) es
 divides_more t m d [] each all = tt
 divides_more t m d (e ∷ es) each all = (
-  exp_divides (t · m) e.0 (λ i small. omega (arith, exp-· t m i small, divides_exp m e.0 each.0.0 i small, divides_exp t (without m e.0) all.0 i small, exp-mono (λ i. exp e.0 i - exp m i) i small)),
+  exp_divides (t · m) e.0
+      (λ i small. omega (
+        arith,
+        exp-· t m i small,
+        divides_exp m e.0 each.0.0 i small,
+        divides_exp t (without m e.0) all.0 i small,
+        exp-mono (λ i. exp e.0 i - exp m i) i small,
+      )),
   divides_more t m d es each.1 all.1,
 )
 
@@ -166,8 +174,10 @@ part_monomial p some = by (first_of p some)
     by f =
         let m = common_monomial p in
         let t = common_monomial (divided m (signed_content p) p) in
-        let all = subst (EachTerm (λ k c. Divides t k)) (divided_terms m (signed_content p) p (part_goes p)) (common_divides (divided m (signed_content p) p)) in
-        let more : Divides (t · m) m = common_greatest p (t · m) f.head f.rest f.full (divides_more t m (signed_content p) p.terms (part_goes p) all) in
+        let all = subst (EachTerm (λ k c. Divides t k)) (divided_terms m (signed_content p) p (part_goes p))
+        (common_divides (divided m (signed_content p) p)) in
+        let more : Divides (t · m) m =
+        common_greatest p (t · m) f.head f.rest f.full (divides_more t m (signed_content p) p.terms (part_goes p) all) in
         same_mono t unit (λ i small. omega (arith, exp-· t m i small, divides_exp (t · m) m more i small, exp-unit i small))
 
 pub form_primitive : (p : Polynomial) → (p ≡ polys.zero → ⊥) → (content (primitive_form p) ≡ 1) × (is_negative (primitive_form p) ≡ false)
@@ -186,7 +196,10 @@ part_primitive p some = (
 
 pub common_is : (p : Polynomial) (t : Mono) → (p ≡ polys.zero → ⊥) → Divides t (common_monomial p) ↔ EachTerm (λ m c. Divides t m) p.terms
 common_is p t some = (
-  λ divides. EachTerm-weaker (λ m c d. exp_divides t m (λ i small. omega (arith, divides_exp t (common_monomial p) divides i small, divides_exp (common_monomial p) m d i small))) p.terms (common_divides p),
+  λ divides. EachTerm-weaker
+      (λ m c d. exp_divides t m
+      (λ i small. omega (arith, divides_exp t (common_monomial p) divides i small, divides_exp (common_monomial p) m d i small))) p.terms
+      (common_divides p),
   λ each. by (first_of p some) each,
 )
   where

@@ -106,7 +106,8 @@ module _ (f : Polynomial) (b : Mono × ℤ) (bs : List (Mono × ℤ)) (f_is : f.
       value : at monomials int_group (plus A B) top ≡ a.1 *ℤ b.1
       value =
           at-⊕ monomials int_group A B top
-          ∙ ap₂ ◌+ℤ◌ (ap (λ es. value_at monomials int_group es top) first ∙ at_head monomials int_group (top, a.1 *ℤ b.1) (row_of a bs) first_canonical.1) (at_below monomials int_group top B.terms rest)
+          ∙ ap₂ ◌+ℤ◌ (ap (λ es. value_at monomials int_group es top) first
+          ∙ at_head monomials int_group (top, a.1 *ℤ b.1) (row_of a bs) first_canonical.1) (at_below monomials int_group top B.terms rest)
           ∙ plus_zero (a.1 *ℤ b.1)
 
       above : (k : Mono) → mono_cmp top k ≡ Less → at monomials int_group (plus A B) k ≡ pos 0
@@ -119,5 +120,6 @@ module _ (f : Polynomial) (b : Mono × ℤ) (bs : List (Mono × ℤ)) (f_is : f.
       leads : Leads monomials int_group (plus A B) top (at monomials int_group (plus A B) top)
       leads =
           leads_of monomials int_group (plus A B) top
-          (λ none. product_nonzero int_ring int_domain a.1 b.1 (not_zero monomials int_group a.1 falling.0) (not_zero monomials int_group b.1 canonical.0) (sym value ∙ none))
+          (λ none. product_nonzero int_ring int_domain a.1 b.1 (not_zero monomials int_group a.1 falling.0)
+          (not_zero monomials int_group b.1 canonical.0) (sym value ∙ none))
           above

@@ -38,12 +38,13 @@ pub multiple_is :
     (t : Term) (us v : List Term) → CanMultiply (t ∷ []) us → v ≡ made_of (product t) us →
     IsListOf (times (poly_of_terms (t ∷ [])) (poly_of_terms us)) (length us) (nat_abs t.coef * size_of us) v
 unfolding poly_of_terms
-multiple_is t us v can made = subst (IsListOf (times (poly_of_terms (t ∷ [])) (poly_of_terms us)) (length us) (nat_abs t.coef * size_of us)) (sym made) (record {
-  falling = subst (IsCanonical monomials int_group) (sym (entries-multiples t us)) (row_canonical (entry t) (entries us) can.first.0 can.second);
-  value = ap poly_of (entries-multiples t us) ∙ poly_of-row (entry t) (entries us);
-  few = omega (arith, length-multiples t us);
-  small = omega (arith, size-multiples t us);
-})
+multiple_is t us v can made = subst (IsListOf (times (poly_of_terms (t ∷ [])) (poly_of_terms us)) (length us) (nat_abs t.coef * size_of us))
+    (sym made) (record {
+      falling = subst (IsCanonical monomials int_group) (sym (entries-multiples t us)) (row_canonical (entry t) (entries us) can.first.0 can.second);
+      value = ap poly_of (entries-multiples t us) ∙ poly_of-row (entry t) (entries us);
+      few = omega (arith, length-multiples t us);
+      small = omega (arith, size-multiples t us);
+    })
 
 pub size_of-one : (t : Term) → size_of (t ∷ []) ≡ nat_abs t.coef
 size_of-one t = omega (arith, sum_by-cons size t [])
@@ -55,7 +56,8 @@ pub product_of_none :
     IsListOf (times (poly_of_terms ps) (poly_of_terms qs)) (length ps * length qs) (size_of ps * size_of qs) v
 unfolding poly_of_terms
 product_of_none ps qs v none empty =
-    subst₂ (λ p w. IsListOf (times (poly_of_terms p) (poly_of_terms qs)) (length p * length qs) (size_of p * size_of qs) w) (sym (no_length ps none)) (sym empty)
+    subst₂ (λ p w. IsListOf (times (poly_of_terms p) (poly_of_terms qs)) (length p * length qs) (size_of p * size_of qs) w) (sym (no_length ps none))
+    (sym empty)
     (record { falling = tt; value = poly_of-none (poly_of_terms qs); few = omega arith; small = omega arith })
 
 pub only_one : (ps : List Term) (t : Term) → length ps ≡ 1 → t ≡ get_or ps 0 t → ps ≡ t ∷ []
@@ -115,7 +117,8 @@ module _ (ps front back qs : List Term) (parts : ps ≡ front ++ back) (can : Ca
     product_of_halves w sum = record {
       falling = sum.falling;
       value = sum.value ∙ ap₂ plus left.value right.value
-          ∙ sym (ap (λ es. times (poly_of es) (poly_of_terms qs)) (ap entries parts ∙ entries-append front back) ∙ times-append (entries front) (entries back) _);
+          ∙ sym (ap (λ es. times (poly_of es) (poly_of_terms qs)) (ap entries parts ∙ entries-append front back)
+          ∙ times-append (entries front) (entries back) _);
       few = omega (arith, sum.few, left.few, right.few, ap (λ p. length p * length qs) parts, ap (λ n. n * length qs) (length-append front back));
       small = omega (arith, sum.small, left.small, right.small, sizes_of_parts);
     }

@@ -24,8 +24,10 @@ number-zero = number_is (pos 0) ∙ zero_term unit
 pub shifted_by_none : (i : Name) (p : Polynomial) → shifted i 0 p ≡ p
 unfolding shifted
 shifted_by_none i =
-    same_ring_hom (shift (steps i 0)) (λ p. p) (shift_ring_hom (steps i 0)) (record { sums = λ p q. refl; products = λ p q. refl; numbers = λ c. refl })
-    (λ j. shift-name (steps i 0) j ∙ ap (λ z. polys.◌+◌ (name j) (number z)) (none (eqb (place j) (place i))) ∙ ap (λ w. polys.◌+◌ (name j) w) number-zero ∙ polys.add_zero (name j))
+    same_ring_hom (shift (steps i 0)) (λ p. p) (shift_ring_hom (steps i 0))
+    (record { sums = λ p q. refl; products = λ p q. refl; numbers = λ c. refl })
+    (λ j. shift-name (steps i 0) j ∙ ap (λ z. polys.◌+◌ (name j) (number z)) (none (eqb (place j) (place i)))
+    ∙ ap (λ w. polys.◌+◌ (name j) w) number-zero ∙ polys.add_zero (name j))
   where
     none : (b : Bool) → cond b (pos 0) (pos 0) ≡ pos 0
     none true = refl
@@ -38,7 +40,8 @@ module _ (i : ℕ) (known : i < 6) (a : ℕ) where
   x = name_with i
 
   rest-unit : with_exponent i 0 unit ≡ unit
-  rest-unit = same_mono _ _ (λ k small. exp-with_exponent i 0 unit k small ∙ ap (λ n. cond (eqb k i) 0 n) (exp-unit k small) ∙ none (eqb k i) ∙ sym (exp-unit k small))
+  rest-unit = same_mono _ _ (λ k small. exp-with_exponent i 0 unit k small ∙ ap (λ n. cond (eqb k i) 0 n) (exp-unit k small) ∙ none (eqb k i)
+      ∙ sym (exp-unit k small))
     where
       none : (b : Bool) → ◌≡◌ {A = ℕ} (cond b 0 0) 0
       none true = refl
@@ -54,11 +57,14 @@ module _ (i : ℕ) (known : i < 6) (a : ℕ) where
       by : (k : ℕ) (b : Bool) → eqb k i ≡ b → k < 6 → cond b 0 (exp (symbol x · m) k) ≡ cond b 0 (exp m k)
       by k true here small = refl
       by k false other small =
-          exp-· (symbol x) m k small ∙ ap (λ n. n + exp m k) (exp-symbol x k small ∙ ap (λ j. cond (eqb k j) 1 0) is_place ∙ ap (λ b. cond b 1 0) other) ∙ omega arith
+          exp-· (symbol x) m k small
+          ∙ ap (λ n. n + exp m k) (exp-symbol x k small ∙ ap (λ j. cond (eqb k j) 1 0) is_place ∙ ap (λ b. cond b 1 0) other) ∙ omega arith
 
   rest-other : (j : Name) (m : Mono) → eqb (place j) i ≡ false → with_exponent i 0 (symbol j · m) ≡ symbol j · with_exponent i 0 m
   rest-other j m other =
-      same_mono _ _ (λ k small. exp-with_exponent i 0 (symbol j · m) k small ∙ ap (cond (eqb k i) 0) (exp-· (symbol j) m k small) ∙ by k (eqb k i) refl small ∙ sym (exp-· (symbol j) (with_exponent i 0 m) k small ∙ ap (λ n. exp (symbol j) k + n) (exp-with_exponent i 0 m k small)))
+      same_mono _ _ (λ k small. exp-with_exponent i 0 (symbol j · m) k small ∙ ap (cond (eqb k i) 0) (exp-· (symbol j) m k small)
+      ∙ by k (eqb k i) refl small
+      ∙ sym (exp-· (symbol j) (with_exponent i 0 m) k small ∙ ap (λ n. exp (symbol j) k + n) (exp-with_exponent i 0 m k small)))
     where
       by : (k : ℕ) (b : Bool) → eqb k i ≡ b → k < 6 → cond b 0 (exp (symbol j) k + exp m k) ≡ exp (symbol j) k + cond b 0 (exp m k)
       by k true here small =
@@ -77,10 +83,12 @@ module _ (i : ℕ) (known : i < 6) (a : ℕ) where
       by k false here small = refl
 
   exp-name : (m : Mono) → exp (symbol x · m) i ≡ suc (exp m i)
-  exp-name m = exp-· (symbol x) m i known ∙ ap (λ n. n + exp m i) (exp-symbol x i known ∙ ap (λ b. cond b 1 0) (eq-eqb i (place x) (sym is_place))) ∙ omega arith
+  exp-name m = exp-· (symbol x) m i known ∙ ap (λ n. n + exp m i) (exp-symbol x i known ∙ ap (λ b. cond b 1 0) (eq-eqb i (place x) (sym is_place)))
+      ∙ omega arith
 
   exp-other : (j : Name) (m : Mono) → eqb (place j) i ≡ false → exp (symbol j · m) i ≡ exp m i
-  exp-other j m other = exp-· (symbol j) m i known ∙ ap (λ n. n + exp m i) (exp-symbol j i known ∙ ap (λ b. cond b 1 0) (turned (eqb i (place j)) refl)) ∙ omega arith
+  exp-other j m other = exp-· (symbol j) m i known
+      ∙ ap (λ n. n + exp m i) (exp-symbol j i known ∙ ap (λ b. cond b 1 0) (turned (eqb i (place j)) refl)) ∙ omega arith
     where
       turned : (b : Bool) → eqb i (place j) ≡ b → b ≡ false
       turned true equal = let e : i ≡ place j = eqb→eq _ _ (subst T (sym equal) tt) in sym equal ∙ ap₂ eqb e (sym e) ∙ other
@@ -106,7 +114,8 @@ module _ (i : ℕ) (known : i < 6) (a : ℕ) where
 
   shifts-monic : (m : Mono) → shifts (term m (pos 1)) ≡ image m
   shifts-monic = by_symbols (λ m. shifts (term m (pos 1)) ≡ image m)
-      (ap shifts (sym (number_is (pos 1))) ∙ hom.numbers (pos 1) ∙ number_is (pos 1) ∙ ap (λ m. term m (pos 1)) (sym rest-unit) ∙ sym (polys.mul_one _) ∙ ap (λ n. polys.◌*◌ (term (with_exponent i 0 unit) (pos 1)) (power_of i a n)) (sym (exp-unit i known)))
+      (ap shifts (sym (number_is (pos 1))) ∙ hom.numbers (pos 1) ∙ number_is (pos 1) ∙ ap (λ m. term m (pos 1)) (sym rest-unit)
+      ∙ sym (polys.mul_one _) ∙ ap (λ n. polys.◌*◌ (term (with_exponent i 0 unit) (pos 1)) (power_of i a n)) (sym (exp-unit i known)))
       (λ j m before. ap shifts (symbol_term j m) ∙ hom.products _ _ ∙ ap₂ polys.◌*◌ (shifts-name j) before ∙ next j m (eqb (place j) i) refl)
     where
       next : (j : Name) (m : Mono) (b : Bool) → eqb (place j) i ≡ b
@@ -122,7 +131,8 @@ module _ (i : ℕ) (known : i < 6) (a : ℕ) where
       next j m false other =
           ap (λ w. polys.◌*◌ w (image m)) (ap (λ w. polys.◌+◌ (name j) w) number-zero ∙ polys.add_zero (name j))
           ∙ sym (polys.mul_assoc _ _ _)
-          ∙ ap₂ polys.◌*◌ (sym (symbol_term j (with_exponent i 0 m)) ∙ ap (λ k. term k (pos 1)) (sym (rest-other j m other))) (ap (power_of i a) (sym (exp-other j m other)))
+          ∙ ap₂ polys.◌*◌ (sym (symbol_term j (with_exponent i 0 m)) ∙ ap (λ k. term k (pos 1)) (sym (rest-other j m other)))
+          (ap (power_of i a) (sym (exp-other j m other)))
 
   pub shifted-term : (m : Mono) (c : ℤ) → shifted x a (term m c) ≡ times (term (with_exponent i 0 m) c) (power_of i a (exp m i))
   unfolding shifted shifts

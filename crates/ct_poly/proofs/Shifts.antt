@@ -48,7 +48,8 @@ module _ (i : ℕ) (known : i < 6) (a : ℕ) (positive : 0 < a) (t : Term) (row 
       IsShiftOf i a (t ∷ []) v
   shifted_of_one v l = record {
     falling = l.falling;
-    value = l.value ∙ ap₂ times (poly_of-one rest) power.value ∙ sym (ap (shifted (name_with i) a) (poly_of-one t) ∙ shifted-term i known a t.mono t.coef);
+    value = l.value ∙ ap₂ times (poly_of-one rest) power.value
+        ∙ sym (ap (shifted (name_with i) a) (poly_of-one t) ∙ shifted-term i known a t.mono t.coef);
     few = omega (arith, l.few, power_few i known a positive (exp t.mono i) row power, sum_by-cons (λ t. exp t.mono i + 1) t []);
     small = omega (arith, l.small, within, weight-one);
   }
@@ -101,7 +102,15 @@ module _ (table : Powers) (ts front back : List Term) (parts : ts ≡ front ++ b
     shifted_of_halves w sum = record {
       falling = sum.falling;
       value = sum.value ∙ plus_is _ _ ∙ ap₂ polys.◌+◌ left.value right.value
-          ∙ sym (ap (λ us. shifted (name_with table.name) table.by (poly_of_terms us)) parts ∙ ap (shifted (name_with table.name) table.by) (poly_of-append front back) ∙ shifted-sum (name_with table.name) table.by _ _);
-      few = omega (arith, sum.few, left.few, right.few, ap (shift_length table.name) parts, sum_by-append (λ t. exp t.mono table.name + 1) front back);
+          ∙ sym (ap (λ us. shifted (name_with table.name) table.by (poly_of_terms us)) parts
+          ∙ ap (shifted (name_with table.name) table.by) (poly_of-append front back) ∙ shifted-sum (name_with table.name) table.by _ _);
+      few = omega (
+        arith,
+        sum.few,
+        left.few,
+        right.few,
+        ap (shift_length table.name) parts,
+        sum_by-append (λ t. exp t.mono table.name + 1) front back,
+      );
       small = omega (arith, sum.small, left.small, right.small, sizes_of_parts);
     }

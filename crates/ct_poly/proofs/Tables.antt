@@ -47,11 +47,13 @@ module _ {tops : Mono} {p : Polynomial} {cells : List ℤ} (table : IsTable tops
           let mono : k ≡ m = same_cell tops k m inside in_box cell in
           ap (λ n. slice_index_or (slice_set cells (cell_of tops m) (old +ℤ c)) n (pos 0)) cell
           ∙ get_or-set_same cells (cell_of tops m) _ (pos 0) within
-          ∙ sym (ap (coefficient (plus p (term m c))) mono ∙ finite_maps.of_a_sum p (term m c) m ∙ ap₂ ◌+ℤ◌ (sym (table.each m in_box)) (finite_maps.of_a_term m c))
+          ∙ sym (ap (coefficient (plus p (term m c))) mono ∙ finite_maps.of_a_sum p (term m c) m
+          ∙ ap₂ ◌+ℤ◌ (sym (table.each m in_box)) (finite_maps.of_a_term m c))
       by k inside false other =
           let apart = eqb-false (cell_of tops k) (cell_of tops m) other in
           get_or-set_other cells (cell_of tops m) (cell_of tops k) _ (pos 0) apart ∙ table.each k inside
-          ∙ sym (finite_maps.of_a_sum p (term m c) k ∙ ap (λ d. coefficient p k +ℤ d) (finite_maps.of_another_term m k c (λ same. apart (ap (cell_of tops) (sym same)))) ∙ plus_zero _)
+          ∙ sym (finite_maps.of_a_sum p (term m c) k
+          ∙ ap (λ d. coefficient p k +ℤ d) (finite_maps.of_another_term m k c (λ same. apart (ap (cell_of tops) (sym same)))) ∙ plus_zero _)
 
 -- ---- a multiple of a list
 
@@ -75,10 +77,14 @@ pub table_added :
     IsTable tops (plus p (times (term u c) (poly_of_terms ts))) (added (cell_of tops u) c cells (spots tops ts))
 table_added u c [] {tops} {p} {cells} table in_box = subst (λ w. IsTable tops w cells) (sym (no_value p u c)) table
 table_added u c (t ∷ ts) {tops} {p} {cells} table in_box =
-    subst₂ (λ w ds. IsTable tops w ds) (more_value p u c t ts) moved (table_added u c ts (table_one table (u · t.mono) (c *ℤ t.coef) in_box.0) in_box.1)
+    subst₂ (λ w ds. IsTable tops w ds) (more_value p u c t ts) moved
+    (table_added u c ts (table_one table (u · t.mono) (c *ℤ t.coef) in_box.0) in_box.1)
   where
-    moved : added (cell_of tops u) c (slice_set cells (cell_of tops (u · t.mono)) (slice_index_or cells (cell_of tops (u · t.mono)) (pos 0) +ℤ c *ℤ t.coef)) (spots tops ts) ≡ added (cell_of tops u) c cells (spots tops (t ∷ ts))
-    moved = ap (λ n. added (cell_of tops u) c (slice_set cells n (slice_index_or cells n (pos 0) +ℤ c *ℤ t.coef)) (spots tops ts)) (cell_of-· tops u t.mono)
+    moved : added (cell_of tops u) c
+        (slice_set cells (cell_of tops (u · t.mono)) (slice_index_or cells (cell_of tops (u · t.mono)) (pos 0) +ℤ c *ℤ t.coef)) (spots tops ts) ≡
+        added (cell_of tops u) c cells (spots tops (t ∷ ts))
+    moved = ap (λ n. added (cell_of tops u) c (slice_set cells n (slice_index_or cells n (pos 0) +ℤ c *ℤ t.coef)) (spots tops ts))
+        (cell_of-· tops u t.mono)
 
 -- ---- tables of zeros
 

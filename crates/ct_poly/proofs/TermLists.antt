@@ -101,8 +101,10 @@ place-name_with (suc (suc (suc (suc (suc (suc i)))))) small = absurd (omega arit
 -- two terms with equal coefficients are the same exactly where their monomials tie
 pub same_entry :
     (a b : Term) (o : Ordering) → a.coef ≡ b.coef → o ≡ mono_cmp a.mono b.mono → IsTrue (is_eq o) ↔ (entry a ≡ entry b)
-same_entry a b o coefs compared =
-    (λ tied. λ i. (mono_tied a.mono b.mono (sym compared ∙ is_Equal o tied) i, coefs i), λ same. subst (λ w. IsTrue (is_eq w)) (sym (compared ∙ ap (mono_cmp a.mono) (sym (ap (λ e. e.0) same)) ∙ mono_same a.mono)) refl)
+same_entry a b o coefs compared = (
+  λ tied. λ i. (mono_tied a.mono b.mono (sym compared ∙ is_Equal o tied) i, coefs i),
+  λ same. subst (λ w. IsTrue (is_eq w)) (sym (compared ∙ ap (mono_cmp a.mono) (sym (ap (λ e. e.0) same)) ∙ mono_same a.mono)) refl,
+)
   where
     is_Equal : (o : Ordering) → IsTrue (is_eq o) → o ≡ Equal
     is_Equal Less h = cc
@@ -139,7 +141,14 @@ terms-multiple m c q some =
 pub norm_of-row : (e : Mono × ℤ) (fs : List (Mono × ℤ)) → norm_of (row_of e fs) ≡ nat_abs e.1 * norm_of fs
 norm_of-row e [] = omega arith
 norm_of-row e (f ∷ fs) =
-    omega (arith, sum_by-cons (λ d. nat_abs d.1) (e.0 · f.0, e.1 *ℤ f.1) (row_of e fs), sum_by-cons (λ d. nat_abs d.1) f fs, norm_of-row e fs, unsigned_abs-mul e.1 f.1, ap (λ n. nat_abs e.1 * n) (sum_by-cons (λ d. nat_abs d.1) f fs))
+    omega (
+      arith,
+      sum_by-cons (λ d. nat_abs d.1) (e.0 · f.0, e.1 *ℤ f.1) (row_of e fs),
+      sum_by-cons (λ d. nat_abs d.1) f fs,
+      norm_of-row e fs,
+      unsigned_abs-mul e.1 f.1,
+      ap (λ n. nat_abs e.1 * n) (sum_by-cons (λ d. nat_abs d.1) f fs),
+    )
 
 pub length-row : (e : Mono × ℤ) (fs : List (Mono × ℤ)) → length (row_of e fs) ≡ length fs
 length-row e [] = refl

@@ -83,7 +83,8 @@ module _ {p q : Polynomial} (ps qs : List Term) (mine : IsKept p ps) (its : IsKe
     pub difference_small : None ≡ sum_overflow p q → size_of ps + size_of ns ≤ largest_norm
     difference_small none = omega (arith, sum_small none, negative.small)
 
-    module _ (v : List Term) (sum : IsListOf (plus (poly_of_terms ps) (poly_of_terms ns)) (length ps + length ns) (size_of ps + size_of ns) v) (none : None ≡ sum_overflow p q) where
+    module _ (v : List Term) (sum : IsListOf (plus (poly_of_terms ps) (poly_of_terms ns)) (length ps + length ns) (size_of ps + size_of ns) v)
+        (none : None ≡ sum_overflow p q) where
       pub difference_is_kept : IsFalling v × (length v ≤ most_terms) × (size_of v ≤ largest_norm)
       difference_is_kept =
           list_is_kept v sum (omega (arith, counts.0, counts.1, negative.few, (sum_fits_only p q (sym none)).few)) (difference_small none)
@@ -117,13 +118,14 @@ module _ {p q : Polynomial} (ps qs : List Term) (mine : IsKept p ps) (its : IsKe
       sizes = omega (arith, fits.small, ap₂ ◌*◌ norms.0 norms.1);
     }
 
-    module _ (v : List Term) (product : IsListOf (times (poly_of_terms ps) (poly_of_terms qs)) (length ps * length qs) (size_of ps * size_of qs) v) where
-      pub product_is_kept : IsFalling v × (length v ≤ most_terms) × (size_of v ≤ largest_norm)
-      product_is_kept = list_is_kept v product (omega (arith, fits.few, ap₂ ◌*◌ counts.0 counts.1)) can_multiply.sizes
+    module _ (v : List Term) (product : IsListOf (times (poly_of_terms ps) (poly_of_terms qs)) (length ps * length qs) (size_of ps * size_of qs) v)
+      where
+        pub product_is_kept : IsFalling v × (length v ≤ most_terms) × (size_of v ≤ largest_norm)
+        product_is_kept = list_is_kept v product (omega (arith, fits.few, ap₂ ◌*◌ counts.0 counts.1)) can_multiply.sizes
 
-      pub product_answers : checked_times p q ≡ Ok (poly_of_terms v)
-      unfolding checked_times
-      product_answers = verdict_fits _ _ _ (sym none) (sym (product.value ∙ ap₂ times mine.value its.value))
+        pub product_answers : checked_times p q ≡ Ok (poly_of_terms v)
+        unfolding checked_times
+        product_answers = verdict_fits _ _ _ (sym none) (sym (product.value ∙ ap₂ times mine.value its.value))
 
 count-zero : count polys.zero ≡ 0
 unfolding count none
@@ -161,7 +163,8 @@ module _ {p : Polynomial} (i : ℕ) (known : i < 6) (ts : List Term) (mine : IsK
       derivative_size i ts ≤ largest_norm → checked_derived (name_with i) p ≡ Ok (poly_of_terms v)
   unfolding checked_derived
   derivative_answers v made small =
-      verdict_fits _ _ _ (derivative_fits (name_with i) p (omega (arith, derivative_norm_is))) (sym (made.value ∙ ap (derived (name_with i)) mine.value))
+      verdict_fits _ _ _ (derivative_fits (name_with i) p (omega (arith, derivative_norm_is)))
+      (sym (made.value ∙ ap (derived (name_with i)) mine.value))
 
 -- ---- shifts
 
@@ -184,7 +187,8 @@ module _ {p : Polynomial} (i : ℕ) (known : i < 6) (a : ℕ) (ts : List Term) (
   unfolding checked_shifted
   shift_refused_terms some many = verdict_refuses _ _ _ (shift_too_many (name_with i) a p some (omega (arith, shift_count_is)))
 
-  pub shift_refused_number : 0 < a → shift_length i ts ≤ most_terms → largest_norm < shift_size i a ts → checked_shifted (name_with i) a p ≡ Err Number
+  pub shift_refused_number : 0 < a → shift_length i ts ≤ most_terms → largest_norm < shift_size i a ts →
+      checked_shifted (name_with i) a p ≡ Err Number
   unfolding checked_shifted
   shift_refused_number some few large =
       verdict_refuses _ _ _ (shift_too_large (name_with i) a p some (omega (arith, shift_count_is)) (omega (arith, shift_norm_is)))
@@ -194,7 +198,8 @@ module _ {p : Polynomial} (i : ℕ) (known : i < 6) (a : ℕ) (ts : List Term) (
       0 < a → shift_length i ts ≤ most_terms → shift_size i a ts ≤ largest_norm → checked_shifted (name_with i) a p ≡ Ok (poly_of_terms v)
   unfolding checked_shifted
   shift_answers v made some few small =
-      verdict_fits _ _ _ (shift_fits (name_with i) a p some (omega (arith, shift_count_is)) (omega (arith, shift_norm_is))) (sym (made.value ∙ ap (shifted (name_with i) a) mine.value))
+      verdict_fits _ _ _ (shift_fits (name_with i) a p some (omega (arith, shift_count_is)) (omega (arith, shift_norm_is)))
+      (sym (made.value ∙ ap (shifted (name_with i) a) mine.value))
 
 one_power : (e : ℕ) → (1 + 0) ^ e ≡ 1
 one_power zero = pow-zero (1 + 0)
@@ -213,4 +218,5 @@ pub shift_by_none_answers :
 unfolding checked_shifted
 shift_by_none_answers {p} i known a none ts mine r same =
     ap (λ n. verdict (shift_overflow (name_with i) n p) (shifted (name_with i) n p)) none
-    ∙ verdict_fits _ _ _ (shift_by_none_fits (name_with i) p (omega (arith, shift_norm_is i known 0 ts mine, shift_size-none i ts, mine.small))) (shifted_by_none (name_with i) p ∙ sym same)
+    ∙ verdict_fits _ _ _ (shift_by_none_fits (name_with i) p (omega (arith, shift_norm_is i known 0 ts mine, shift_size-none i ts, mine.small)))
+    (shifted_by_none (name_with i) p ∙ sym same)

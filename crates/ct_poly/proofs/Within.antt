@@ -28,25 +28,30 @@ size e = nat_abs e.1
 abbrev inserted : Mono → ℤ → List (Mono × ℤ) → List (Mono × ℤ)
 inserted m c es = insert monomials int_group m c es
 
-keep_within : (m : Mono) (c : ℤ) (es : List (Mono × ℤ)) → (length (keep monomials int_group m c es) ≤ suc (length es)) × (norm_of (keep monomials int_group m c es) ≤ nat_abs c + norm_of es)
+keep_within : (m : Mono) (c : ℤ) (es : List (Mono × ℤ)) →
+    (length (keep monomials int_group m c es) ≤ suc (length es)) × (norm_of (keep monomials int_group m c es) ≤ nat_abs c + norm_of es)
 keep_within m c es = by (int_is_zero c)
   where
     by : (b : Bool) → (length (cond b es ((m, c) ∷ es)) ≤ suc (length es)) × (norm_of (cond b es ((m, c) ∷ es)) ≤ nat_abs c + norm_of es)
     by true = (omega arith, omega arith)
     by false = (omega arith, omega (arith, sum_by-cons size (m, c) es))
 
-insert_within : (m : Mono) (c : ℤ) (es : List (Mono × ℤ)) → (length (inserted m c es) ≤ suc (length es)) × (norm_of (inserted m c es) ≤ nat_abs c + norm_of es)
+insert_within : (m : Mono) (c : ℤ) (es : List (Mono × ℤ)) →
+    (length (inserted m c es) ≤ suc (length es)) × (norm_of (inserted m c es) ≤ nat_abs c + norm_of es)
 insert_within m c [] = keep_within m c []
 insert_within m c (e ∷ es) = by (mono_cmp m e.0) (insert_within m c es)
   where
     by : (r : Ordering) → (length (inserted m c es) ≤ suc (length es)) × (norm_of (inserted m c es) ≤ nat_abs c + norm_of es)
-        → (length (by_order r (e ∷ inserted m c es) (keep monomials int_group m (c +ℤ e.1) es) (keep monomials int_group m c (e ∷ es))) ≤ suc (suc (length es)))
-        × (norm_of (by_order r (e ∷ inserted m c es) (keep monomials int_group m (c +ℤ e.1) es) (keep monomials int_group m c (e ∷ es))) ≤ nat_abs c + norm_of (e ∷ es))
+        → (length (by_order r (e ∷ inserted m c es) (keep monomials int_group m (c +ℤ e.1) es) (keep monomials int_group m c (e ∷ es))) ≤ suc
+        (suc (length es)))
+        × (norm_of (by_order r (e ∷ inserted m c es) (keep monomials int_group m (c +ℤ e.1) es) (keep monomials int_group m c (e ∷ es))) ≤ nat_abs c +
+        norm_of (e ∷ es))
     by Less later = (omega (arith, later.0), omega (arith, later.1, sum_by-cons size e es, sum_by-cons size e (inserted m c es)))
     by Equal later = let kept = keep_within m (c +ℤ e.1) es in (omega (arith, kept.0), omega (arith, kept.1, abs_sum c e.1, sum_by-cons size e es))
     by Greater later = keep_within m c (e ∷ es)
 
-merged_within : (es fs : List (Mono × ℤ)) → (length (merged monomials int_group es fs) ≤ length es + length fs) × (norm_of (merged monomials int_group es fs) ≤ norm_of es + norm_of fs)
+merged_within : (es fs : List (Mono × ℤ)) →
+    (length (merged monomials int_group es fs) ≤ length es + length fs) × (norm_of (merged monomials int_group es fs) ≤ norm_of es + norm_of fs)
 merged_within [] fs = (omega arith, omega arith)
 merged_within (e ∷ es) fs =
     let later = merged_within es fs in
@@ -107,11 +112,17 @@ within_products :
     (d : ℕ) (es : List (Mono × ℤ)) (q : Polynomial) → IsCanonical monomials int_group es → EachTerm (λ m c. total m ≤ d) es →
     IsWithin (length es * count q) (norm_of es * norm q) (d + degree q) (times (poly_of es) q)
 within_products d [] q falling low =
-    within_wider 0 0 (d + degree q) _ _ _ (omega arith) (omega arith) (omega arith) (subst (IsWithin 0 0 (d + degree q)) (sym (times_is _ _ ∙ ap (λ p. polys.◌*◌ p q) poly_of-empty ∙ zero_mul polys q)) (within_zero (d + degree q)))
+    within_wider 0 0 (d + degree q) _ _ _ (omega arith) (omega arith) (omega arith)
+    (subst (IsWithin 0 0 (d + degree q)) (sym (times_is _ _ ∙ ap (λ p. polys.◌*◌ p q) poly_of-empty ∙ zero_mul polys q))
+    (within_zero (d + degree q)))
 within_products d (e ∷ es) q falling low =
-    subst (IsWithin (suc (length es) * count q) (norm_of (e ∷ es) * norm q) (d + degree q)) (sym (times-append (e ∷ []) es q ∙ ap (λ p. plus (times p q) (times (poly_of es) q)) (poly_of-single e.0 e.1)))
-    (within_wider (count q + length es * count q) (nat_abs e.1 * norm q + norm_of es * norm q) (d + degree q) _ _ _ (omega arith) (omega (arith, ap (λ n. n * norm q) (sum_by-cons size e es))) (omega arith)
-    (within_sum (count q) (nat_abs e.1 * norm q) (length es * count q) (norm_of es * norm q) (d + degree q) (within_wider (count q) (nat_abs e.1 * norm q) (total e.0 + degree q) _ _ _ (omega arith) (omega arith) (omega (arith, low.0)) (within_multiple e.0 e.1 q falling.0)) (within_products d es q falling.2 low.1)))
+    subst (IsWithin (suc (length es) * count q) (norm_of (e ∷ es) * norm q) (d + degree q))
+    (sym (times-append (e ∷ []) es q ∙ ap (λ p. plus (times p q) (times (poly_of es) q)) (poly_of-single e.0 e.1)))
+    (within_wider (count q + length es * count q) (nat_abs e.1 * norm q + norm_of es * norm q) (d + degree q) _ _ _ (omega arith)
+    (omega (arith, ap (λ n. n * norm q) (sum_by-cons size e es))) (omega arith)
+    (within_sum (count q) (nat_abs e.1 * norm q) (length es * count q) (norm_of es * norm q) (d + degree q)
+    (within_wider (count q) (nat_abs e.1 * norm q) (total e.0 + degree q) _ _ _ (omega arith) (omega arith) (omega (arith, low.0))
+    (within_multiple e.0 e.1 q falling.0)) (within_products d es q falling.2 low.1)))
 
 degree_within : (d : ℕ) (es : List (Mono × ℤ)) → EachTerm (λ m c. total m ≤ d) es → degree_of es ≤ d
 degree_within d [] each = omega arith
@@ -122,7 +133,9 @@ pub products_within :
     (count (times p q) ≤ count p * count q) × (norm (times p q) ≤ norm p * norm q) × (degree (times p q) ≤ degree p + degree q)
 unfolding count norm degree
 products_within p q =
-    let w : IsWithin (length p.terms * count q) (norm_of p.terms * norm q) (degree p + degree q) (times p q) = subst (λ r. IsWithin (length p.terms * count q) (norm_of p.terms * norm q) (degree p + degree q) (times r q)) (rebuilt p) (within_products (degree p) p.terms q p.canonical (degree_greatest p)) in
+    let w : IsWithin (length p.terms * count q) (norm_of p.terms * norm q) (degree p + degree q) (times p q) =
+    subst (λ r. IsWithin (length p.terms * count q) (norm_of p.terms * norm q) (degree p + degree q) (times r q)) (rebuilt p)
+    (within_products (degree p) p.terms q p.canonical (degree_greatest p)) in
     (w.few, w.small, degree_within (degree p + degree q) _ w.low)
 
 -- ---- shifts and derivatives, by the lists of the terms
@@ -154,7 +167,13 @@ derivatives_within i p =
     let list = derivative_is (place i) (place_small i) ts (made_of (derivative (place i)) ts) falling refl in
     let derives : poly_of_terms (made_of (derivative (place i)) ts) ≡ derived i p = list.value ∙ ap₂ derived (place-of_place i) value in (
       omega (arith, count_of-terms (made_of (derivative (place i)) ts) list.falling derives, list.few, count_of-terms ts falling value),
-      omega (arith, norm_of-terms (made_of (derivative (place i)) ts) list.falling derives, list.small, sum_by-entries (λ e. nat_abs e.1 * exp e.0 (place i)) ts, ap (sum_by (λ e. nat_abs e.1 * exp e.0 (place i))) (entries-term_list p.terms)),
+      omega (
+        arith,
+        norm_of-terms (made_of (derivative (place i)) ts) list.falling derives,
+        list.small,
+        sum_by-entries (λ e. nat_abs e.1 * exp e.0 (place i)) ts,
+        ap (sum_by (λ e. nat_abs e.1 * exp e.0 (place i))) (entries-term_list p.terms),
+      ),
     )
 
 pub negatives_within : (p : Polynomial) → (count (polys.neg p) ≤ count p) × (norm (polys.neg p) ≤ norm p)
@@ -177,7 +196,8 @@ differences_within p q =
 
 pub term_within : (m : Mono) (c : ℤ) → (count (term m c) ≤ 1) × (norm (term m c) ≤ nat_abs c)
 unfolding count norm single
-term_within m c = subst (λ p. (length p.terms ≤ 1) × (norm_of p.terms ≤ nat_abs c)) (sym (term_is m c)) (let one = insert_within m c [] in (one.0, omega (arith, one.1)))
+term_within m c = subst (λ p. (length p.terms ≤ 1) × (norm_of p.terms ≤ nat_abs c)) (sym (term_is m c)) (let one = insert_within m c [] in
+    (one.0, omega (arith, one.1)))
 
 power_norm : (i a e : ℕ) → norm (power_of i a e) ≤ (1 + a) ^ e
 power_norm i a zero = omega (arith, pow-zero (1 + a), ap norm (one_is ∙ number_is (pos 1)), (term_within unit (pos 1)).1)
@@ -205,14 +225,17 @@ module _ (i : ℕ) (known : i < 6) (a : ℕ) (positive : 0 < a) where
       ))
 
   shifted_list_within : (ts : List Term) →
-      (count (shifted (name_with i) a (poly_of_terms ts)) ≤ shift_length i ts) × (norm (shifted (name_with i) a (poly_of_terms ts)) ≤ shift_size i a ts)
+      (count (shifted (name_with i) a (poly_of_terms ts)) ≤ shift_length i ts) ×
+      (norm (shifted (name_with i) a (poly_of_terms ts)) ≤ shift_size i a ts)
   shifted_list_within [] =
-      subst (λ p. (count p ≤ shift_length i []) × (norm p ≤ shift_size i a [])) (sym (ap (shifted (name_with i) a) (no_terms [] refl) ∙ shifted-zero (name_with i) a))
+      subst (λ p. (count p ≤ shift_length i []) × (norm p ≤ shift_size i a []))
+      (sym (ap (shifted (name_with i) a) (no_terms [] refl) ∙ shifted-zero (name_with i) a))
       (let none = within_zero 0 in (none.few, none.small))
   shifted_list_within (t ∷ ts) =
       let later = shifted_list_within ts in
       let one = shifted_term_within t.mono t.coef in
-      subst (λ p. (count p ≤ shift_length i (t ∷ ts)) × (norm p ≤ shift_size i a (t ∷ ts))) (sym (ap (shifted (name_with i) a) (poly_of-cons t ts) ∙ shifted-sum (name_with i) a _ _ ∙ sym (plus_is _ _)))
+      subst (λ p. (count p ≤ shift_length i (t ∷ ts)) × (norm p ≤ shift_size i a (t ∷ ts)))
+      (sym (ap (shifted (name_with i) a) (poly_of-cons t ts) ∙ shifted-sum (name_with i) a _ _ ∙ sym (plus_is _ _)))
       (let sum = sums_within (shifted (name_with i) a (term t.mono t.coef)) (shifted (name_with i) a (poly_of_terms ts)) in (
         omega (arith, sum.0, one.0, later.0, sum_by-cons (λ t. exp t.mono i + 1) t ts),
         omega (arith, sum.1, one.1, later.1, sum_by-cons (λ t. nat_abs t.coef * (1 + a) ^ exp t.mono i) t ts),
@@ -226,6 +249,18 @@ shifts_within i a p positive =
     let value : poly_of_terms ts ≡ p = ap poly_of (entries-term_list p.terms) ∙ rebuilt p in
     let list = shifted_list_within (place i) (place_small i) a positive ts in
     let same : shifted (name_with (place i)) a (poly_of_terms ts) ≡ shifted i a p = ap₂ (λ j q. shifted j a q) (place-of_place i) value in (
-      omega (arith, list.0, ap count same, sum_by-entries (λ e. exp e.0 (place i) + 1) ts, ap (sum_by (λ e. exp e.0 (place i) + 1)) (entries-term_list p.terms)),
-      omega (arith, list.1, ap norm same, sum_by-entries (λ e. nat_abs e.1 * (1 + a) ^ exp e.0 (place i)) ts, ap (sum_by (λ e. nat_abs e.1 * (1 + a) ^ exp e.0 (place i))) (entries-term_list p.terms)),
+      omega (
+        arith,
+        list.0,
+        ap count same,
+        sum_by-entries (λ e. exp e.0 (place i) + 1) ts,
+        ap (sum_by (λ e. exp e.0 (place i) + 1)) (entries-term_list p.terms),
+      ),
+      omega (
+        arith,
+        list.1,
+        ap norm same,
+        sum_by-entries (λ e. nat_abs e.1 * (1 + a) ^ exp e.0 (place i)) ts,
+        ap (sum_by (λ e. nat_abs e.1 * (1 + a) ^ exp e.0 (place i))) (entries-term_list p.terms),
+      ),
     )

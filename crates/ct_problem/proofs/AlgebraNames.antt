@@ -25,7 +25,8 @@ summed_count (n ∷ ns) =
 
 -- ---- a name line
 
-new_is : {a : Texts} (before : List Naming) (text : List ℕ) (ls : List Lexeme) → (a ▸ declared (no_lets before) text) ls → Each IsSpelled ls → IsNew before text
+new_is : {a : Texts} (before : List Naming) (text : List ℕ) (ls : List Lexeme) → (a ▸ declared (no_lets before) text) ls → Each IsSpelled ls →
+    IsNew before text
 new_is before text ls h words =
     let spelled : Each IsSpelled (Word text ∷ []) = subst (Each IsSpelled) h.second.1 (words_behind h words) in
     is_new_gives text (no_lets before) spelled.0 h.second.0.other
@@ -38,12 +39,17 @@ moves : (action : Action) (r : Role) → action ≢ Still → r ≢ role.Param �
 unfolding Fits
 moves action r no_still no_param = ((λ h. absurd (no_still h)), (λ h. absurd (no_param h)))
 
-line_is : (before : List Naming) (text : List ℕ) (action : Action) (r : Role) (ls : List Lexeme) → name_line before action r text ls → Each IsSpelled ls → IsNew before text × Fits action r
+line_is : (before : List Naming) (text : List ℕ) (action : Action) (r : Role) (ls : List Lexeme) → name_line before action r text ls →
+    Each IsSpelled ls → IsNew before text × Fits action r
 unfolding Fits
-line_is before text Shift role.Free ls h words = (new_is before text h.first.front h.first.first (words_before h.first (words_before h words)), moves Shift role.Free (λ e. cc) (λ e. cc))
-line_is before text Derive role.Free ls h words = (new_is before text h.first.front h.first.first (words_before h.first (words_before h words)), moves Derive role.Free (λ e. cc) (λ e. cc))
-line_is before text Shift role.Summed ls h words = (new_is before text h.front h.first (words_before h words), moves Shift role.Summed (λ e. cc) (λ e. cc))
-line_is before text Derive role.Summed ls h words = (new_is before text h.front h.first (words_before h words), moves Derive role.Summed (λ e. cc) (λ e. cc))
+line_is before text Shift role.Free ls h words =
+    (new_is before text h.first.front h.first.first (words_before h.first (words_before h words)), moves Shift role.Free (λ e. cc) (λ e. cc))
+line_is before text Derive role.Free ls h words =
+    (new_is before text h.first.front h.first.first (words_before h.first (words_before h words)), moves Derive role.Free (λ e. cc) (λ e. cc))
+line_is before text Shift role.Summed ls h words =
+    (new_is before text h.front h.first (words_before h words), moves Shift role.Summed (λ e. cc) (λ e. cc))
+line_is before text Derive role.Summed ls h words =
+    (new_is before text h.front h.first (words_before h words), moves Derive role.Summed (λ e. cc) (λ e. cc))
 line_is before text Still role.Param ls h words = (new_is before text h.front h.first (words_before h words), ((λ e. refl), (λ e. refl)))
 line_is before text Shift role.Param ls h words = absurd h
 line_is before text Derive role.Param ls h words = absurd h
@@ -64,7 +70,8 @@ differ_more : (ns : List Naming) (n : Naming) → TextsDiffer ns → IsOtherText
 differ_more [] n differ others = (tt, tt)
 differ_more (m ∷ ns) n differ others = (other_more m.text ns n differ.0 (λ same. others.0 (sym same)), differ_more ns n differ.1 others.1)
 
-lines_are : (before ns : List Naming) (ls : List Lexeme) → name_lines before ns ls → Each IsSpelled ls → EachIsNaming before → TextsDiffer before → EachIsNaming (before ++ ns) × TextsDiffer (before ++ ns)
+lines_are : (before ns : List Naming) (ls : List Lexeme) → name_lines before ns ls → Each IsSpelled ls → EachIsNaming before → TextsDiffer before →
+    EachIsNaming (before ++ ns) × TextsDiffer (before ++ ns)
 unfolding Fits
 lines_are before [] ls h words each differ = subst (λ (ns : List Naming). EachIsNaming ns × TextsDiffer ns) (sym (append-nil before)) (each, differ)
 lines_are before (n ∷ ns) ls h words each differ =

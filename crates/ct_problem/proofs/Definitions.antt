@@ -28,7 +28,8 @@ forms_of (t ∷ texts) (f ∷ forms) e =
     let same : length texts ≡ length forms = omega (arith, e) in
     ap (λ (fs : List LetForm). f ∷ fs) (forms_of texts forms same)
 
-pub length-definitions_of : (texts : List (List ℕ)) (forms : List LetForm) → length texts ≡ length forms → length (definitions_of texts forms) ≡ length forms
+pub length-definitions_of : (texts : List (List ℕ)) (forms : List LetForm) → length texts ≡ length forms →
+    length (definitions_of texts forms) ≡ length forms
 length-definitions_of [] [] e = refl
 length-definitions_of [] (f ∷ forms) e = absurd (omega (arith, e))
 length-definitions_of (t ∷ texts) [] e = absurd (omega (arith, e))
@@ -37,5 +38,6 @@ length-definitions_of (t ∷ texts) (f ∷ forms) e =
     ap suc (length-definitions_of texts forms same)
 
 -- the names that stand behind the `let` lines
-pub definitions-named : (names : Names) (forms : List LetForm) → length names.lets ≡ length forms → with_definitions names.variables (definitions_of names.lets forms) ≡ names
+pub definitions-named : (names : Names) (forms : List LetForm) → length names.lets ≡ length forms →
+    with_definitions names.variables (definitions_of names.lets forms) ≡ names
 definitions-named names forms e = ap (λ (texts : List (List ℕ)). record { variables = names.variables; lets = texts }) (texts_of names.lets forms e)

@@ -1,12 +1,14 @@
 -- The rules of `den` lines. There are no more lines than summed names: each takes one for which nothing stood (`room-taken`).
 -- Main lemma `den_lines_rule`.
-use Rattle.ct_problem.proofs.Base.{◌≡◌, ℕ, zero, suc, ◌+◌, ◌≤◌, max, ◌&&◌, Bool, true, false, cond, List, [], ◌∷◌, ◌++◌, length, Option, Some, None, Ok}
+use Rattle.ct_problem.proofs.Base.{◌≡◌, ℕ, zero, suc, ◌+◌, ◌≤◌, max, ◌&&◌, Bool, true, false, cond, List, [], ◌∷◌, ◌++◌, length, Option, Some, None}
+use Rattle.ct_problem.proofs.Base.{Ok}
 use Rattle.ct_problem.proofs.Base.{IsTrue, slice_get, refl, sym, ap, ◌∙◌, subst, arith, codes, is_none, false≢true, ◌⊎◌, inl, inr, Symbol, Naming}
 use Rattle.ct_problem.proofs.Base.{is_summed, Expr, WrongKind, Known, Variable, Let, Unknown, Dens, no_dens, is_given, with_den, is_summed_name}
 use Rattle.ct_problem.proofs.Base.{summed_by, summed_word, summed_name, once, den_line, den_lines, den_lines_from, Input, Parser, ◌>>=◌, ◌>>◌, pure}
 use Rattle.ct_problem.proofs.Base.{fault, look, place, skip, next, past, expect, sees_word, eat_word, Lexeme, Word, Sign, Texts, nothing, one, ◌▸◌}
 use Rattle.ct_problem.proofs.Base.{each, IsSummed, Names, known, summed_texts, length-map}
-use Rattle.ct_problem.proofs.Frame.{joined_to_left, joined_to_right, joined_nothing, shows_word, to_nothing, on_first, on_second, replaced, replaced_both, anywhere}
+use Rattle.ct_problem.proofs.Frame.{joined_to_left, joined_to_right, joined_nothing, shows_word, to_nothing, on_first, on_second, replaced}
+use Rattle.ct_problem.proofs.Frame.{replaced_both, anywhere}
 use Rattle.ct_problem.proofs.Frame.{IsFresh}
 use Rattle.ct_problem.specs.Lines as read
 use Rattle.ct_problem.specs.GrammarProblem as grammar
@@ -39,7 +41,8 @@ room-none (n ∷ ns) =
     by false = refl
 
 -- a line takes one of them
-room-taken : (ns : List Naming) (ds : Dens) (at : ℕ) (x : Expr) → length ds ≡ length ns → IsTrue (is_summed_name (slice_get ns at)) → is_given at ds ≡ false → room ns ds ≡ suc (room ns (with_den at x ds))
+room-taken : (ns : List Naming) (ds : Dens) (at : ℕ) (x : Expr) → length ds ≡ length ns → IsTrue (is_summed_name (slice_get ns at)) →
+    is_given at ds ≡ false → room ns ds ≡ suc (room ns (with_den at x ds))
 unfolding room
 room-taken [] ds zero x same summed other = absurd (false≢true summed)
 room-taken [] ds (suc at) x same summed other = absurd (false≢true summed)
@@ -58,19 +61,25 @@ module _ (bad : Option ℕ) (names : Names) where
   summed_rule : Rule bad any (summed_name names) (grammar.summed names) anywhere
   unfolding summed_name
   summed_rule =
-      like (λ at ls h. record { letters = h.letters; named = h.means; spelled = h.spelled }) (λ at ls h. record { letters = h.letters; means = h.named; spelled = h.spelled }) (λ rest a. a)
+      like (λ at ls h. record { letters = h.letters; named = h.means; spelled = h.spelled })
+      (λ at ls h. record { letters = h.letters; means = h.named; spelled = h.spelled }) (λ rest a. a)
       (meant_rule (IsSummed names) (summed_word names) (λ letters. summed_by names (known letters names)) (λ i. refl) refl (λ s. refl) refl refl refl
       (λ letters i j at e. is letters i j at (known letters names) refl e)
-      (λ letters i at s. ap (λ (k : Known). summed_by names k i) (known-variable letters at names s.first) ∙ ap (λ (b : Bool). cond {A = Parser ℕ} b (skip >> pure at) (fault WrongKind) i) s.summed))
+      (λ letters i at s. ap (λ (k : Known). summed_by names k i) (known-variable letters at names s.first)
+      ∙ ap (λ (b : Bool). cond {A = Parser ℕ} b (skip >> pure at) (fault WrongKind) i) s.summed))
     where
-      summed_if : (letters : List ℕ) (i j : Input) (at n : ℕ) → known letters names ≡ Variable n → (b : Bool) → is_summed_name (slice_get names.variables n) ≡ b
+      summed_if : (letters : List ℕ) (i j : Input) (at n : ℕ) → known letters names ≡ Variable n → (b : Bool) →
+          is_summed_name (slice_get names.variables n) ≡ b
           → cond {A = Parser ℕ} b (skip >> pure n) (fault WrongKind) i ≡ Ok (at, j) → IsSummed names letters at × (next i ≡ j)
       summed_if letters i j at n e true s h =
-          let pairs : ◌≡◌ {A = ℕ × Input} (n, next i) (at, j) = cc in
-          (subst (IsSummed names letters) (ap (λ (r : ℕ × Input). r.0) pairs) (record { first = variable-known letters n names e; summed = s }), ap (λ (r : ℕ × Input). r.1) pairs)
+          let pairs : ◌≡◌ {A = ℕ × Input} (n, next i) (at, j) = cc in (
+            subst (IsSummed names letters) (ap (λ (r : ℕ × Input). r.0) pairs) (record { first = variable-known letters n names e; summed = s }),
+            ap (λ (r : ℕ × Input). r.1) pairs,
+          )
       summed_if letters i j at n e false s h = cc
 
-      is : (letters : List ℕ) (i j : Input) (at : ℕ) (k : Known) → known letters names ≡ k → summed_by names k i ≡ Ok (at, j) → IsSummed names letters at × (next i ≡ j)
+      is : (letters : List ℕ) (i j : Input) (at : ℕ) (k : Known) → known letters names ≡ k → summed_by names k i ≡ Ok (at, j) →
+          IsSummed names letters at × (next i ≡ j)
       is letters i j at (Variable n) e h = summed_if letters i j at n e (is_summed_name (slice_get names.variables n)) refl h
       is letters i j at (Let n) e h = cc
       is letters i j at Unknown e h = cc
@@ -83,7 +92,9 @@ module _ (bad : Option ℕ) (names : Names) where
     spelled : (grammar.summed names line.0 ▸ (one (Sign 58) ▸ grammar.value names false line.1)) ls
 
   abbrev behind_key : Dens → ℕ → Parser Dens
-  behind_key found start = summed_name names >>= (λ at. once names (is_given at found) start >> (expect 58 >> (read.value names false >>= (λ x. pure (with_den at x found)))))
+  behind_key found start =
+      summed_name names >>=
+      (λ at. once names (is_given at found) start >> (expect 58 >> (read.value names false >>= (λ x. pure (with_den at x found)))))
 
   abbrev Behind : Dens → ℕ → Dens → Texts
   Behind found at ds ls = (is_given at found ≡ false) × (one (Sign 58) ▸ Split (grammar.value names false) (λ x. Made (with_den at x found)) ds) ls
@@ -92,7 +103,8 @@ module _ (bad : Option ℕ) (names : Names) where
   behind_rule found start =
       like there back (λ rest a. a)
       (binds summed_rule (λ at. unless (λ b. once names b start) (is_given at found) (λ i j x e. cc) (λ i. refl)
-      (passes (sign_rule 58) (binds (value_rule names false) (λ x. result (with_den at x found)) (λ x y back rest m a. fresh_before bad back rest a))))
+      (passes (sign_rule 58)
+      (binds (value_rule names false) (λ x. result (with_den at x found)) (λ x y back rest m a. fresh_before bad back rest a))))
       (λ at y back rest m a. tt))
     where
       there : (ds : Dens) (ls : List Lexeme) → Split (grammar.summed names) (Behind found) ds ls → OneDen found ds ls
@@ -128,11 +140,13 @@ module _ (bad : Option ℕ) (names : Names) where
   line_by found n start more = cond more (behind_key found start >>= (λ ds. den_lines_from names n ds)) (pure found)
 
   -- the first word of a line is taken as any other
-  in_turn : (n : ℕ) (found : Dens) (i : Input) → den_lines_from names (suc n) found i ≡ (look place >>= (λ start. eat_word (codes "den") >>= line_by found n start)) i
+  in_turn : (n : ℕ) (found : Dens) (i : Input) →
+      den_lines_from names (suc n) found i ≡ (look place >>= (λ start. eat_word (codes "den") >>= line_by found n start)) i
   unfolding den_lines_from den_line eat_word
   in_turn n found i = by (sees_word (codes "den") i)
     where
-      by : (b : Bool) → cond {A = Parser Dens} b (den_line names found >>= (λ ds. den_lines_from names n ds)) (pure found) i ≡ line_by found n (place i) b (past b i)
+      by : (b : Bool) → cond {A = Parser Dens} b (den_line names found >>= (λ ds. den_lines_from names n ds)) (pure found) i ≡
+          line_by found n (place i) b (past b i)
       by true = refl
       by false = refl
 
@@ -143,12 +157,14 @@ module _ (bad : Option ℕ) (names : Names) where
       none : (ds : Dens) (ls : List Lexeme) → MoreDens 0 found ds ls → Made found ds ls
       none ds ls h = by h.lines h.few h.gives h.spelled
         where
-          by : (lines : List (ℕ × Expr)) → length lines ≤ 0 → grammar.Gives names found lines ds → each (grammar.den_line names) lines ls → Made found ds ls
+          by : (lines : List (ℕ × Expr)) → length lines ≤ 0 → grammar.Gives names found lines ds → each (grammar.den_line names) lines ls →
+              Made found ds ls
           by [] few gives spelled = (gives, spelled)
           by (d ∷ lines) few gives spelled = absurd (omega (arith, few))
   lines_rule (suc n) found =
       same_rule (in_turn n found) (looks place (λ start.
-      decides (line_by found n start) (word_test (codes "den")) (binds (behind_rule found start) (λ ds. lines_rule n ds) (λ ds y back rest m a. fresh_before bad back rest a.fresh)) (result found)
+      decides (line_by found n start) (word_test (codes "den"))
+      (binds (behind_rule found start) (λ ds. lines_rule n ds) (λ ds y back rest m a. fresh_before bad back rest a.fresh)) (result found)
       to_yes (no_den (suc n) found) which
       (λ ds used rest m a. ap (λ ls. shows_word (codes "den") (ls ++ rest)) m.1 ∙ other_word (codes "den") 5 rest (omega arith) a.from)))
     where
@@ -161,23 +177,27 @@ module _ (bad : Option ℕ) (names : Names) where
             lines = o.line ∷ more.lines;
             few = omega (arith, few);
             gives = (o.other, subst (λ (es : Dens). grammar.Gives names es more.lines ds) (sym o.gives) more.gives);
-            spelled = on_first (λ xs k. joined_to_left (joined_to_left k)) (joined_to_left (replaced h (replaced_both h.second.spelled o.spelled more.spelled)));
+            spelled = on_first (λ xs k. joined_to_left (joined_to_left k))
+                (joined_to_left (replaced h (replaced_both h.second.spelled o.spelled more.spelled)));
           }
 
       which : (ds : Dens) (ls : List Lexeme) → MoreDens (suc n) found ds ls → (one (Word (codes "den")) ▸ OneMore n found ds) ls ⊎ Made found ds ls
       which ds ls h = by h.lines h.few h.gives h.spelled
         where
-          by : (lines : List (ℕ × Expr)) → length lines ≤ suc n → grammar.Gives names found lines ds → each (grammar.den_line names) lines ls → (one (Word (codes "den")) ▸ OneMore n found ds) ls ⊎ Made found ds ls
+          by : (lines : List (ℕ × Expr)) → length lines ≤ suc n → grammar.Gives names found lines ds → each (grammar.den_line names) lines ls →
+              (one (Word (codes "den")) ▸ OneMore n found ds) ls ⊎ Made found ds ls
           by [] few gives spelled = inr (gives, spelled)
           by (d ∷ lines) few gives spelled =
               let k = joined_to_right (on_first (λ xs l. joined_to_right (joined_to_right l)) spelled) in
               inl (replaced k (record {
                 item = with_den d.0 d.1 found;
-                spelled = replaced_both k.second (record { line = d; other = gives.0; gives = refl; spelled = k.second.first }) (record { lines = lines; few = omega (arith, few); gives = gives.1; spelled = k.second.second });
+                spelled = replaced_both k.second (record { line = d; other = gives.0; gives = refl; spelled = k.second.first })
+                    (record { lines = lines; few = omega (arith, few); gives = gives.1; spelled = k.second.second });
               }))
 
   -- so many lines there are at most
-  few_lines : (lines : List (ℕ × Expr)) (found dens : Dens) (ls : List Lexeme) → length found ≡ length names.variables → grammar.Gives names found lines dens → each (grammar.den_line names) lines ls → length lines ≤ room names.variables found
+  few_lines : (lines : List (ℕ × Expr)) (found dens : Dens) (ls : List Lexeme) → length found ≡ length names.variables →
+      grammar.Gives names found lines dens → each (grammar.den_line names) lines ls → length lines ≤ room names.variables found
   few_lines [] found dens ls same gives spelled = omega arith
   few_lines (d ∷ lines) found dens ls same gives spelled =
       let taken = room-taken names.variables found d.0 d.1 same spelled.first.first.first.second.named.summed gives.0 in
@@ -188,9 +208,11 @@ module _ (bad : Option ℕ) (names : Names) where
   pub den_lines_rule : Rule bad any (den_lines names) (grammar.den_lines names) (AfterLines bad 5)
   unfolding den_lines
   den_lines_rule =
-      like (λ dens ls m. record { lines = m.lines; gives = m.gives; spelled = m.spelled }) within (λ rest a. a) (lines_rule (max 1 (length (summed_texts names.variables))) (no_dens names.variables))
+      like (λ dens ls m. record { lines = m.lines; gives = m.gives; spelled = m.spelled }) within (λ rest a. a)
+      (lines_rule (max 1 (length (summed_texts names.variables))) (no_dens names.variables))
     where
-      within : (dens : Dens) (ls : List Lexeme) → grammar.den_lines names dens ls → MoreDens (max 1 (length (summed_texts names.variables))) (no_dens names.variables) dens ls
+      within : (dens : Dens) (ls : List Lexeme) → grammar.den_lines names dens ls →
+          MoreDens (max 1 (length (summed_texts names.variables))) (no_dens names.variables) dens ls
       within dens ls d =
           let few = few_lines d.lines (no_dens names.variables) dens ls (length-map names.variables (λ n. None)) d.gives d.spelled in
           let all = room-none names.variables in

@@ -39,11 +39,13 @@ pub record IsTermFor (ns : List Naming) (operators : Bool) (t : Summand) : Type 
   pub over : IsTrue (is_over_term ns t)
   pub plain : operators ≡ false → IsTrue (has_no_symbol_term t)
 
-all_true-of : {X : Type 0} (test : X → Bool) (P : X → Type 0) (xs : List X) → ((x : X) → P x → IsTrue (test x)) → Each P xs → IsTrue (all_true (map test xs))
+all_true-of : {X : Type 0} (test : X → Bool) (P : X → Type 0) (xs : List X) → ((x : X) → P x → IsTrue (test x)) → Each P xs →
+    IsTrue (all_true (map test xs))
 all_true-of test P [] h each = refl
 all_true-of test P (x ∷ xs) h each = rw (h x each.0) (all_true-of test P xs h each.1)
 
-some_all_true-of : {X : Type 0} (test : X → Bool) (P : X → Type 0) (x : X) (xs : List X) → ((x : X) → P x → IsTrue (test x)) → Each P (x ∷ xs) → IsTrue (some_all_true (map test (x ∷ xs)))
+some_all_true-of : {X : Type 0} (test : X → Bool) (P : X → Type 0) (x : X) (xs : List X) → ((x : X) → P x → IsTrue (test x)) → Each P (x ∷ xs) →
+    IsTrue (some_all_true (map test (x ∷ xs)))
 some_all_true-of test P x xs h each = rw (h x each.0) (all_true-of test P xs h each.1)
 
 -- ---- the kinds of expressions
@@ -101,8 +103,10 @@ module _ (ns : List Naming) where
     unfolding is_over is_over_term over_step has_no_symbol has_no_symbol_term no_symbol_step
     sum_is t ts each = record {
       evaluable = rw (evaluable-Sum (t ∷ ts)) (all_true-of is_evaluable_term (IsTermFor ns operators) (t ∷ ts) (λ t h. h.evaluable) each);
-      over = stepped (over_step ns) _ _ (e.rolls-Sum (t ∷ ts)) ∙ (some_all_true-of (is_over_term ns) (IsTermFor ns operators) t ts (λ t h. h.over) each);
-      plain = λ none. stepped no_symbol_step _ _ (e.rolls-Sum (t ∷ ts)) ∙ (all_true-of has_no_symbol_term (IsTermFor ns operators) (t ∷ ts) (λ t h. h.plain none) each);
+      over = stepped (over_step ns) _ _ (e.rolls-Sum (t ∷ ts))
+          ∙ (some_all_true-of (is_over_term ns) (IsTermFor ns operators) t ts (λ t h. h.over) each);
+      plain = λ none. stepped no_symbol_step _ _ (e.rolls-Sum (t ∷ ts))
+          ∙ (all_true-of has_no_symbol_term (IsTermFor ns operators) (t ∷ ts) (λ t h. h.plain none) each);
     }
 
     product_is : (x : Expr) (xs : List Expr) → Each (IsFor ns operators) (x ∷ xs) → IsFor ns operators (e.Product (x ∷ xs))
@@ -110,7 +114,8 @@ module _ (ns : List Naming) where
     product_is x xs each = record {
       evaluable = rw (evaluable-Product (x ∷ xs)) (all_true-of is_evaluable (IsFor ns operators) (x ∷ xs) (λ x h. h.evaluable) each);
       over = stepped (over_step ns) _ _ (e.rolls-Product (x ∷ xs)) ∙ (some_all_true-of (is_over ns) (IsFor ns operators) x xs (λ x h. h.over) each);
-      plain = λ none. stepped no_symbol_step _ _ (e.rolls-Product (x ∷ xs)) ∙ (all_true-of has_no_symbol (IsFor ns operators) (x ∷ xs) (λ x h. h.plain none) each);
+      plain = λ none. stepped no_symbol_step _ _ (e.rolls-Product (x ∷ xs))
+          ∙ (all_true-of has_no_symbol (IsFor ns operators) (x ∷ xs) (λ x h. h.plain none) each);
     }
 
     pub product_of-is : (x : Expr) (xs : List Expr) → Each (IsFor ns operators) (x ∷ xs) → IsFor ns operators (product_of (x ∷ xs))

@@ -26,11 +26,14 @@ module _ {X : Type 0} (p : X → Bool) where
   position-cons x xs = by (p x) (nat_lt (front xs) (length xs)) refl
     where
       by : (here rest : Bool) → nat_lt (front xs) (length xs) ≡ rest
-          → (let o : Option ℕ = cond (nat_lt (cond (not here) (1 + front xs) 0) (suc (length xs))) (Some (cond (not here) (1 + front xs) 0)) None in o)
+          → (let o : Option ℕ = cond (nat_lt (cond (not here) (1 + front xs) 0) (suc (length xs))) (Some (cond (not here) (1 + front xs) 0)) None in
+          o)
           ≡ cond here (Some 0) (later (cond rest (Some (front xs)) None))
       by true rest e = let below : nat_lt 0 (suc (length xs)) ≡ true = first_of (search (rules, tests), grind (arith, tests)) in rw below refl
-      by false true e = let below : nat_lt (1 + front xs) (suc (length xs)) ≡ true = first_of (search (rules, tests), grind (arith, tests)) in rw below (some_same (1 + front xs) (suc (front xs)) (omega arith))
-      by false false e = let above : nat_lt (1 + front xs) (suc (length xs)) ≡ false = first_of (search (rules, tests), grind (arith, tests)) in rw above refl
+      by false true e = let below : nat_lt (1 + front xs) (suc (length xs)) ≡ true = first_of (search (rules, tests), grind (arith, tests)) in
+          rw below (some_same (1 + front xs) (suc (front xs)) (omega arith))
+      by false false e = let above : nat_lt (1 + front xs) (suc (length xs)) ≡ false = first_of (search (rules, tests), grind (arith, tests)) in
+          rw above refl
 
   later-behind : (n : ℕ) (o q : Option ℕ) → later (behind n o q) ≡ behind (suc n) (later o) q
   unfolding later
@@ -48,7 +51,8 @@ module _ {X : Type 0} (p : X → Bool) where
       position-cons x (xs ++ ys) ∙ ap (λ o. cond (p x) (Some 0) (later o)) (position-append xs ys)
       ∙ by (p x) ∙ ap (λ o. behind (suc (length xs)) o (position p ys)) (sym (position-cons x xs))
     where
-      by : (here : Bool) → (let o : Option ℕ = cond here (Some 0) (later (behind (length xs) (position p xs) (position p ys))) in o) ≡ behind (suc (length xs)) (cond here (Some 0) (later (position p xs))) (position p ys)
+      by : (here : Bool) → (let o : Option ℕ = cond here (Some 0) (later (behind (length xs) (position p xs) (position p ys))) in o) ≡
+          behind (suc (length xs)) (cond here (Some 0) (later (position p xs))) (position p ys)
       by true = refl
       by false = later-behind (length xs) (position p xs) (position p ys)
 
@@ -61,7 +65,8 @@ module _ {X : Type 0} (p : X → Bool) where
   position-none [] e = refl
   position-none (x ∷ xs) e = by (p x) refl (sym (position-cons x xs) ∙ e) (position-none xs)
     where
-      by : (here : Bool) → p x ≡ here → (let o : Option ℕ = cond here (Some 0) (later (position p xs)) in o) ≡ None → (position p xs ≡ None → list_any p xs ≡ false) → list_any p (x ∷ xs) ≡ false
+      by : (here : Bool) → p x ≡ here → (let o : Option ℕ = cond here (Some 0) (later (position p xs)) in o) ≡ None →
+          (position p xs ≡ None → list_any p xs ≡ false) → list_any p (x ∷ xs) ≡ false
       by true is none rest = cc
       by false is none rest = ap (λ (b : Bool). b || list_any p xs) is ∙ rest (none_later (position p xs) none)
 

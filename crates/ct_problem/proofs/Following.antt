@@ -40,7 +40,8 @@ Follows-then i j k f g = record {
 pub Follows-next : (i : Input) → (Settled i → Settled (next i)) → Follows i (next i)
 Follows-next i settles = by i.left settles
   where
-    by : (left : List Token) → (Settled (record i { left = left }) → Settled (record i { left = tail left })) → Follows (record i { left = left }) (record i { left = tail left })
+    by : (left : List Token) → (Settled (record i { left = left }) → Settled (record i { left = tail left })) →
+        Follows (record i { left = left }) (record i { left = tail left })
     by [] s = record { same_text = refl; same_bad = refl; front = []; parts = refl; settles = s }
     by (t ∷ ts) s = record { same_text = refl; same_bad = refl; front = t ∷ []; parts = refl; settles = s }
 
@@ -62,7 +63,8 @@ pub passed : (i : Input) (l : Lexeme) (rest : List Lexeme) → shown i ≡ l ∷
 unfolding has_line_end
 passed i l rest head plain s = record { whole = by i.left head s.whole }
   where
-    by : (left : List Token) → lexemes i.text left ≡ l ∷ rest → ((left ≡ [] → ⊥) → has_line_end left ≡ false → i.bad ≡ None) → (tail left ≡ [] → ⊥) → has_line_end (tail left) ≡ false → i.bad ≡ None
+    by : (left : List Token) → lexemes i.text left ≡ l ∷ rest → ((left ≡ [] → ⊥) → has_line_end left ≡ false → i.bad ≡ None) → (tail left ≡ [] → ⊥) →
+        has_line_end (tail left) ≡ false → i.bad ≡ None
     by [] e whole some none = cc
     by (t ∷ ts) e whole some none =
         let first : lexeme_of t.symbol (slice t.from t.to i.text) ≡ l = cc in
@@ -73,8 +75,10 @@ passed i l rest head plain s = record { whole = by i.left head s.whole }
 pub Follows-past : (i : Input) (l : Lexeme) (rest : List Lexeme) → shown i ≡ l ∷ rest → ends_line l ≡ false → Follows i (next i)
 Follows-past i l rest head plain = Follows-next i (passed i l rest head plain)
 
-fresh_of : (i j : Input) (x : Unit {0}) (b : Bool) (o : Option ℕ) → has_line_end i.left ≡ b → i.bad ≡ o → fresh_by b o i ≡ Ok (x, j) → (i ≡ j) × (has_line_end i.left ≡ false → i.bad ≡ None)
-fresh_of i j x true o e f h = let pairs : ◌≡◌ {A = Unit {0} × Input} (tt, i) (x, j) = cc in (ap (λ (r : Unit {0} × Input). r.1) pairs, λ none. absurd (false≢true (sym none ∙ e)))
+fresh_of : (i j : Input) (x : Unit {0}) (b : Bool) (o : Option ℕ) → has_line_end i.left ≡ b → i.bad ≡ o → fresh_by b o i ≡ Ok (x, j) →
+    (i ≡ j) × (has_line_end i.left ≡ false → i.bad ≡ None)
+fresh_of i j x true o e f h = let pairs : ◌≡◌ {A = Unit {0} × Input} (tt, i) (x, j) = cc in
+    (ap (λ (r : Unit {0} × Input). r.1) pairs, λ none. absurd (false≢true (sym none ∙ e)))
 fresh_of i j x false None e f h = let pairs : ◌≡◌ {A = Unit {0} × Input} (tt, i) (x, j) = cc in (ap (λ (r : Unit {0} × Input). r.1) pairs, λ none. f)
 fresh_of i j x false (Some at) e f h = cc
 
@@ -92,5 +96,6 @@ lexemes-append text (t ∷ front) back = rw (lexemes-append text front back) ref
 pub used-taken : (i j : Input) (used : List Lexeme) (f : Follows i j) → shown i ≡ used ++ shown j → used ≡ lexemes i.text f.front
 used-taken i j used f e =
     let left : shown j ≡ lexemes i.text j.left = ap (λ text. lexemes text j.left) f.same_text in
-    let whole : lexemes i.text f.front ++ lexemes i.text j.left ≡ used ++ lexemes i.text j.left = sym (lexemes-append i.text f.front j.left) ∙ ap (lexemes i.text) (sym f.parts) ∙ e ∙ ap (λ ls. used ++ ls) left in
+    let whole : lexemes i.text f.front ++ lexemes i.text j.left ≡ used ++ lexemes i.text j.left =
+    sym (lexemes-append i.text f.front j.left) ∙ ap (lexemes i.text) (sym f.parts) ∙ e ∙ ap (λ ls. used ++ ls) left in
     sym (append_cancel_right (lexemes i.text f.front) used (lexemes i.text j.left) whole)

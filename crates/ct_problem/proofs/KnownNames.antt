@@ -2,11 +2,13 @@
 --     known-variable, variable-known    the first declared name of these letters has this number
 use Rattle.ct_problem.proofs.Base.{◌≡◌, ℕ, List, Option, Some, None, ap, position, bytes_eq, Variable, Names, is_named, known, known_by}
 
-pub known-variable : (letters : List ℕ) (at : ℕ) (names : Names) → position (is_named letters) names.variables ≡ Some at → known letters names ≡ Variable at
+pub known-variable : (letters : List ℕ) (at : ℕ) (names : Names) → position (is_named letters) names.variables ≡ Some at →
+    known letters names ≡ Variable at
 unfolding known
 known-variable letters at names first = ap (λ (o : Option ℕ). known_by o (position (bytes_eq letters) names.lets)) first
 
-pub variable-known : (letters : List ℕ) (at : ℕ) (names : Names) → known letters names ≡ Variable at → position (is_named letters) names.variables ≡ Some at
+pub variable-known : (letters : List ℕ) (at : ℕ) (names : Names) → known letters names ≡ Variable at →
+    position (is_named letters) names.variables ≡ Some at
 unfolding known
 variable-known letters at names e = by (position (is_named letters) names.variables) (position (bytes_eq letters) names.lets) e
   where

@@ -40,7 +40,9 @@ module _ (text : List ℕ) (names : Names) where
   found_at None (Some at) e =
       let above : nat_lt (length names.variables + at) (length names.variables) ≡ false = first_of (search (rules, tests), grind (arith, tests)) in
       let same : length names.variables + at - length names.variables ≡ at = omega arith in
-      ap (λ (n : ℕ). let k : Known = Let n in k) (sym same) ∙ ap (λ (b : Bool). cond b (Variable (length names.variables + at)) (Let (length names.variables + at - length names.variables))) (sym above)
+      ap (λ (n : ℕ). let k : Known = Let n in k) (sym same)
+      ∙ ap (λ (b : Bool). cond b (Variable (length names.variables + at)) (Let (length names.variables + at - length names.variables)))
+      (sym above)
   found_at None None e = refl
 
   pub known-texts : known text names ≡ known_at (length names.variables) (position (bytes_eq text) (texts_of names))
@@ -63,4 +65,5 @@ module _ (text : List ℕ) (names : Names) where
 
   pub new-texts : IsTrue (is_new text names) → position (bytes_eq text) (texts_of names) ≡ None
   unfolding is_new known
-  new-texts h = place ∙ unknown_nowhere variable definition (both_pass (not (is_letter_of_symbol text)) (is_unknown (known_by variable definition)) h).1
+  new-texts h = place ∙ unknown_nowhere variable definition
+      (both_pass (not (is_letter_of_symbol text)) (is_unknown (known_by variable definition)) h).1

@@ -16,7 +16,12 @@ tokens_fit bytes at (t ∷ ts) h =
 
 lexemes_fit : (bytes : List ℕ) (from : ℕ) → length (lexemes bytes (scan_of bytes from).tokens) ≤ length (drop from bytes)
 lexemes_fit bytes from =
-    omega (arith, length-shown (input_of_scan bytes (scan_of bytes from)), tokens_fit bytes from (scan_of bytes from).tokens (scans_are_tokens bytes from), length-drop from bytes)
+    omega (
+      arith,
+      length-shown (input_of_scan bytes (scan_of bytes from)),
+      tokens_fit bytes from (scan_of bytes from).tokens (scans_are_tokens bytes from),
+      length-drop from bytes,
+    )
 
 -- ---- plain texts
 
@@ -40,7 +45,8 @@ a_lexeme_each names place (x ∷ xs) ls h =
     let parts = ap length h.parts in
     omega (arith, parts, length-append h.front h.back, some, a_lexeme_each names (place + 1) xs h.back h.second)
 
-pub cofactors_fit : (variables : List Naming) (count : ℕ) (bytes : List ℕ) (from : ℕ) (r : Report) → ReportStandsFor variables count bytes from r → count < largest_norm
+pub cofactors_fit : (variables : List Naming) (count : ℕ) (bytes : List ℕ) (from : ℕ) (r : Report) → ReportStandsFor variables count bytes from r →
+    count < largest_norm
 cofactors_fit variables count bytes from r s =
     let h = s.lines in
     let each = a_lexeme_each _ 1 r.cofactors h.first.back h.first.second in

@@ -21,7 +21,8 @@ Opens-one l ls u other = record { head = l; back = []; parts = u; no_minus = oth
 pub Opens-before : (ls rest : List Lexeme) → Opens ls → shows_sign 45 (ls ++ rest) ≡ false
 Opens-before ls rest o = ap (λ xs. shows_sign 45 (xs ++ rest)) o.parts ∙ o.no_minus (o.back ++ rest)
 
-pub each-length : {X : Type 0} (a : X → Texts) → ((x : X) (ls : List Lexeme) → a x ls → 0 < length ls) → (xs : List X) (ls : List Lexeme) → each a xs ls → length xs ≤ length ls
+pub each-length : {X : Type 0} (a : X → Texts) → ((x : X) (ls : List Lexeme) → a x ls → 0 < length ls) → (xs : List X) (ls : List Lexeme) →
+    each a xs ls → length xs ≤ length ls
 each-length a some [] ls h = omega arith
 each-length a some (x ∷ xs) ls h =
     let first = some x h.front h.first in
@@ -36,7 +37,8 @@ begun-length l ls h =
     omega (arith, parts, length-append h.front h.back, first)
 
 -- a sign begins the lexemes
-pub begun-shows : {b : Texts} (l : Lexeme) (ls rest : List Lexeme) (F : Texts) → (one l ▸ b) ls → ((back : List Lexeme) → F (l ∷ back)) → F (ls ++ rest)
+pub begun-shows : {b : Texts} (l : Lexeme) (ls rest : List Lexeme) (F : Texts) → (one l ▸ b) ls → ((back : List Lexeme) → F (l ∷ back)) →
+    F (ls ++ rest)
 begun-shows l ls rest F h f =
     let parts : ls ++ rest ≡ l ∷ (h.back ++ rest) = ap (λ xs. xs ++ rest) (h.parts ∙ ap (λ xs. xs ++ h.back) h.first) in
     subst F (sym parts) (f (h.back ++ rest))

@@ -68,11 +68,13 @@ shown-next i = by i.left
     by [] = refl
     by (t ∷ ts) = refl
 
-symbol_first : (text : List ℕ) (left : List Token) (s : Symbol) → input.symbol_of left ≡ Some s → lexemes text left ≡ lexeme_of s (spelling_in text left) ∷ after_first (lexemes text left)
+symbol_first : (text : List ℕ) (left : List Token) (s : Symbol) → input.symbol_of left ≡ Some s →
+    lexemes text left ≡ lexeme_of s (spelling_in text left) ∷ after_first (lexemes text left)
 symbol_first text [] s e = cc
 symbol_first text (t ∷ ts) s e =
     let same : t.symbol ≡ s = cc in
-    ap (λ (r : Symbol). lexeme_of r (slice t.from t.to text) ∷ lexemes text ts) same ∙ ap (λ (bytes : List ℕ). lexeme_of s bytes ∷ lexemes text ts) (sym (slice_of-slice t.from t.to text))
+    ap (λ (r : Symbol). lexeme_of r (slice t.from t.to text) ∷ lexemes text ts) same
+    ∙ ap (λ (bytes : List ℕ). lexeme_of s bytes ∷ lexemes text ts) (sym (slice_of-slice t.from t.to text))
 
 -- the next token's lexeme
 pub shown-symbol : (i : Input) (s : Symbol) → input.symbol i ≡ Some s → shown i ≡ lexeme_of s (spelling i) ∷ after_first (shown i)
@@ -83,9 +85,11 @@ shown-symbol i s e = symbol_first i.text i.left s e
 capped : (most n b : ℕ) → min (10 * min n most + (b - 48)) most ≡ min (10 * n + (b - 48)) most
 capped most n b = omega arith
 
-fold-capped : (most : ℕ) (ds : List ℕ) (n : ℕ) → fold (λ m b. min (10 * m + (b - 48)) most) (min n most) ds ≡ min (fold (λ m b. 10 * m + (b - 48)) n ds) most
+fold-capped : (most : ℕ) (ds : List ℕ) (n : ℕ) →
+    fold (λ m b. min (10 * m + (b - 48)) most) (min n most) ds ≡ min (fold (λ m b. 10 * m + (b - 48)) n ds) most
 fold-capped most [] n = refl
-fold-capped most (d ∷ ds) n = ap (λ (m : ℕ). fold (λ m b. min (10 * m + (b - 48)) most) m ds) (capped most n d) ∙ fold-capped most ds (10 * n + (d - 48))
+fold-capped most (d ∷ ds) n = ap (λ (m : ℕ). fold (λ m b. min (10 * m + (b - 48)) most) m ds) (capped most n d)
+    ∙ fold-capped most ds (10 * n + (d - 48))
 
 -- digits that are within the limit have their whole value
 pub value_of-decimal : (limit : ℕ) (ds : List ℕ) → limit ≤ largest_norm → value_of ds ≤ limit → decimal ds ≡ value_of ds

@@ -40,7 +40,8 @@ rank End = 8
 abbrev pub rank_of : List ℕ → ℕ
 rank_of w =
     cond (bytes_eq w (codes "let")) 1 (cond (bytes_eq w (codes "gen")) 2 (cond (bytes_eq w (codes "use")) 3 (cond (bytes_eq w (codes "den")) 4
-    (cond (bytes_eq w (codes "target")) 5 (cond (bytes_eq w (codes "order")) 6 (cond (bytes_eq w (codes "degree")) 7 (cond (bytes_eq w (codes "end")) 8 0)))))))
+    (cond (bytes_eq w (codes "target")) 5
+    (cond (bytes_eq w (codes "order")) 6 (cond (bytes_eq w (codes "degree")) 7 (cond (bytes_eq w (codes "end")) 8 0)))))))
 
 rank_is : (k : Key) → rank_of (word_of k) ≡ rank k
 rank_is Let = refl
@@ -62,7 +63,8 @@ pub record From (r : ℕ) (rest : List Lexeme) : Type 0 where
 pub other_word : (w : List ℕ) (r : ℕ) (rest : List Lexeme) → rank_of w < r → From r rest → shows_word w rest ≡ false
 other_word w r rest below f =
     let low = f.low in
-    let differ = unequal_words (word_of f.key) w (λ same. let ranks : rank f.key ≡ rank_of w = sym (rank_is f.key) ∙ ap rank_of same in omega (arith, ranks, low, below)) in
+    let differ = unequal_words (word_of f.key) w (λ same. let ranks : rank f.key ≡ rank_of w = sym (rank_is f.key) ∙ ap rank_of same in
+    omega (arith, ranks, low, below)) in
     ap (shows_word w) f.parts ∙ differ
 
 pub From-lower : (r s : ℕ) (rest : List Lexeme) → r ≤ s → From s rest → From r rest
@@ -91,7 +93,8 @@ Leads bad r s M = (back rest : List Lexeme) → M back → AfterLines bad s rest
 
 module _ (bad : Option ℕ) where
   pub leads_nothing : (r s : ℕ) → r ≤ s → Leads bad r s nothing
-  leads_nothing r s below back rest none a = subst (λ (ls : List Lexeme). AfterLines bad r (ls ++ rest)) (sym none) (record { from = From-lower r s rest below a.from; fresh = a.fresh })
+  leads_nothing r s below back rest none a =
+      subst (λ (ls : List Lexeme). AfterLines bad r (ls ++ rest)) (sym none) (record { from = From-lower r s rest below a.from; fresh = a.fresh })
 
   pub leads_key : (k : Key) (r s : ℕ) (b : Texts) → r ≤ rank k → Leads bad r s (one (Word (word_of k)) ▸ b)
   leads_key k r s b low back rest h a = record {
@@ -101,4 +104,5 @@ module _ (bad : Option ℕ) where
 
   pub leads_join : (r m s : ℕ) (a b : Texts) → Leads bad r m a → Leads bad m s b → Leads bad r s (a ▸ b)
   leads_join r m s a b first second back rest h after =
-      subst (AfterLines bad r) (sym (ap (λ ls. ls ++ rest) h.parts ∙ append_assoc h.front h.back rest)) (first h.front (h.back ++ rest) h.first (second h.back rest h.second after))
+      subst (AfterLines bad r) (sym (ap (λ ls. ls ++ rest) h.parts ∙ append_assoc h.front h.back rest))
+      (first h.front (h.back ++ rest) h.first (second h.back rest h.second after))

@@ -34,7 +34,8 @@ module _ (test : Naming → Bool) (limit : ℕ) (found : List Naming) (n : Namin
       by false room = omega (arith, most)
 
   room_before : (ns : List Naming) → count_by test (found ++ n ∷ ns) ≤ suc limit → test n ≡ true → count_by test found ≤ limit
-  room_before ns few is = let e = counts ns in let one : cond {A = ℕ} (test n) 1 0 ≡ 1 = ap (λ (b : Bool). cond {A = ℕ} b 1 0) is in omega (arith, e, one, few)
+  room_before ns few is = let e = counts ns in let one : cond {A = ℕ} (test n) 1 0 ≡ 1 = ap (λ (b : Bool). cond {A = ℕ} b 1 0) is in
+      omega (arith, e, one, few)
 
 pub record AreWithin (ns : List Naming) : Type 0 where
   pub operators : count_by has_operator ns ≤ 4
@@ -51,7 +52,11 @@ rooms_fit found (n ∷ ns) rooms w =
 pub few_rooms : (found ns : List Naming) → AreWithin (found ++ ns) → Rooms found ns
 few_rooms found [] w = tt
 few_rooms found (n ∷ ns) w =
-    let room : HasRoom found n.action n.role = record { operators = room_before has_operator 3 found n ns w.operators; summed = room_before (λ m. is_summed m.role) 2 found n ns w.summed } in
+    let room : HasRoom found n.action n.role =
+    record {
+      operators = room_before has_operator 3 found n ns w.operators;
+      summed = room_before (λ m. is_summed m.role) 2 found n ns w.summed;
+    } in
     (room, few_rooms (found ++ n ∷ []) ns (subst AreWithin (sym (append_assoc found (n ∷ []) ns)) w))
 
 -- ---- lines
@@ -76,14 +81,16 @@ module _ (found : List Naming) (action : Action) where
   sums_room : summed_ones found ≤ 2 → sums_fully found ≡ false
   sums_room few = le-ltb 2 _ (omega (arith, summed_count found, few))
 
-  pub room_is : (line : NameLine) → by_action action true true false ≡ acts_in line → is_full line found ≡ false → HasRoom found action (role_of_line line)
+  pub room_is : (line : NameLine) → by_action action true true false ≡ acts_in line → is_full line found ≡ false →
+      HasRoom found action (role_of_line line)
   unfolding is_full
   room_is Free acts h = record { operators = λ _. ltb-false _ _ h; summed = λ e. absurd (false≢true e) }
   room_is Sum acts h = summed_room (neither (acts_fully found) (sums_fully found) h)
   room_is Int acts h = summed_room (neither (acts_fully found) (sums_fully found) h)
   room_is Param acts h = record { operators = λ e. absurd (false≢true (sym acts ∙ e)); summed = λ e. absurd (false≢true e) }
 
-  pub room_for : (line : NameLine) → by_action action true true false ≡ acts_in line → HasRoom found action (role_of_line line) → is_full line found ≡ false
+  pub room_for : (line : NameLine) → by_action action true true false ≡ acts_in line → HasRoom found action (role_of_line line) →
+      is_full line found ≡ false
   unfolding is_full
   room_for Free acts room = le-ltb 3 _ (room.operators acts)
   room_for Sum acts room = both_false (acts_fully found) (sums_fully found) (le-ltb 3 _ (room.operators acts)) (sums_room (room.summed refl))

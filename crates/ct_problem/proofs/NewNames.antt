@@ -58,7 +58,8 @@ pub unequal : (xs ys : List ℕ) → bytes_eq xs ys ≡ false → xs ≢ ys
 unequal xs ys e same = let yes = (bytes_eq-Decides xs ys).1 same in false≢true (sym e ∙ yes)
 
 -- no element passes a test that finds none
-first_not : (test : Naming → Bool) (n : Naming) (ns : List Naming) → is_none (position test (n ∷ ns)) ≡ true → (test n ≡ false) × (is_none (position test ns) ≡ true)
+first_not : (test : Naming → Bool) (n : Naming) (ns : List Naming) → is_none (position test (n ∷ ns)) ≡ true →
+    (test n ≡ false) × (is_none (position test ns) ≡ true)
 first_not test n ns e = by (test n) refl (nat_lt (prefix_len (λ m. not (test m)) ns) (length ns)) refl e
   where
     by : (here : Bool) → test n ≡ here → (rest : Bool) → nat_lt (prefix_len (λ m. not (test m)) ns) (length ns) ≡ rest

@@ -6,7 +6,8 @@ use Rattle.ct_problem.proofs.ReportTexts.{report_taken}
 
 pub one_problem : TextsStandForOneProblem
 one_problem command bytes p q at to first second =
-    let same : ◌≡◌ {A = Result (Reading × ℕ) BadInput} (Ok (p, at)) (Ok (q, to)) = sym (problem_taken command bytes p at first) ∙ problem_taken command bytes q to second in
+    let same : ◌≡◌ {A = Result (Reading × ℕ) BadInput} (Ok (p, at)) (Ok (q, to)) = sym (problem_taken command bytes p at first)
+    ∙ problem_taken command bytes q to second in
     let pairs : ◌≡◌ {A = Reading × ℕ} (p, at) (q, to) = cc in
     (ap (λ (r : Reading × ℕ). r.0) pairs, ap (λ (r : Reading × ℕ). r.1) pairs)
 

@@ -3,7 +3,8 @@ use Rattle.ct_problem.proofs.Base.{◌≡◌, ℕ, suc, ◌+◌, ◌<◌, ◌≤
 use Rattle.ct_problem.proofs.Base.{drop-cons, drop_all, Line, line_after, after_all}
 
 module _ {x : Option Line} (line : Line) (text : List ℕ) (at : ℕ) where
-  pub one_byte : (o : Option Line) → at < length text → o ≡ line_after line (get_or text at 0) → x ≡ after_all (Some line) (drop at text) → x ≡ after_all o (drop (at + 1) text)
+  pub one_byte : (o : Option Line) → at < length text → o ≡ line_after line (get_or text at 0) → x ≡ after_all (Some line) (drop at text) →
+      x ≡ after_all o (drop (at + 1) text)
   unfolding after_all
   one_byte o below here e =
       let next : suc at ≡ at + 1 = omega arith in

@@ -23,7 +23,8 @@ found_line_rule =
     ends_with (index, order, degree) (((tt, refl), refl), refl) (λ p known. rw (← known.0.0.1, ← known.0.1, ← known.1) refl))))))
 
 -- a line, or several, for each of these texts
-each_rule : {X : Type 0} {line : List ℕ → Parser X} {L : List ℕ → X → Texts} → ((text : List ℕ) → Rule None any (line text) (L text) anywhere) → (texts : List (List ℕ)) (found : List X)
+each_rule : {X : Type 0} {line : List ℕ → Parser X} {L : List ℕ → X → Texts} → ((text : List ℕ) → Rule None any (line text) (L text) anywhere) →
+    (texts : List (List ℕ)) (found : List X)
     → Rule None any (rules.each_of line texts found) (More (each_with L texts) found) anywhere
 unfolding rules.each_of
 each_rule {X} {line} {L} each [] found = no_item (each_with L []) found (λ ls h. h) only
@@ -32,7 +33,8 @@ each_rule {X} {line} {L} each [] found = no_item (each_with L []) found (λ ls h
     only [] ls h = (refl, h)
     only (x ∷ xs) ls h = absurd h
 each_rule {X} {line} {L} each (text ∷ texts) found =
-    one_item (each_with L (text ∷ texts)) found (each text) (λ x. each_rule each texts (found ++ x ∷ [])) (λ x xs ls h. h) apart (λ x xs back rest h after. tt)
+    one_item (each_with L (text ∷ texts)) found (each text) (λ x. each_rule each texts (found ++ x ∷ [])) (λ x xs ls h. h) apart
+    (λ x xs back rest h after. tt)
   where
     apart : (xs : List X) (ls : List Lexeme) → each_with L (text ∷ texts) xs ls → Cons (L text) (λ x. each_with L texts) xs ls
     apart [] ls h = absurd h
@@ -48,13 +50,15 @@ module _ (names : Names) where
 
   cofactor_rule : (place : ℕ) → place ≤ largest_norm → Rule None any (rules.cofactor names place) (cofactor names place) anywhere
   unfolding rules.cofactor
-  cofactor_rule place low = grouped (grouped (passes (word_rule (codes "cofactor")) (passes (exactly_rule place low) (passes (sign_rule 58) (value_rule names true)))))
+  cofactor_rule place low =
+      grouped (grouped (passes (word_rule (codes "cofactor")) (passes (exactly_rule place low) (passes (sign_rule 58) (value_rule names true)))))
 
   -- so many cofactors, from this number on
   abbrev pub CofactorsFrom : ℕ → ℕ → List Expr → Texts
   CofactorsFrom place count xs ls = (length xs ≡ count) × cofactors names place xs ls
 
-  cofactors_rule : (place n : ℕ) (found : List Expr) → place + n ≤ largest_norm → Rule None any (rules.cofactors_from names place n found) (More (CofactorsFrom place n) found) anywhere
+  cofactors_rule : (place n : ℕ) (found : List Expr) → place + n ≤ largest_norm →
+      Rule None any (rules.cofactors_from names place n found) (More (CofactorsFrom place n) found) anywhere
   unfolding rules.cofactors_from
   cofactors_rule place zero found low = no_item (CofactorsFrom place 0) found (λ ls h. (refl, h)) only
     where
@@ -62,10 +66,12 @@ module _ (names : Names) where
       only [] ls h = (refl, h.1)
       only (x ∷ xs) ls h = cc (h.0)
   cofactors_rule place (suc n) found low =
-      one_item (CofactorsFrom place (suc n)) found (cofactor_rule place (omega (arith, low))) (λ x. cofactors_rule (place + 1) n (found ++ x ∷ []) (omega (arith, low)))
+      one_item (CofactorsFrom place (suc n)) found (cofactor_rule place (omega (arith, low)))
+      (λ x. cofactors_rule (place + 1) n (found ++ x ∷ []) (omega (arith, low)))
       (λ x xs ls h. (ap suc h.second.0, replaced h h.second.1)) apart (λ x xs back rest h after. tt)
     where
-      apart : (xs : List Expr) (ls : List Lexeme) → CofactorsFrom place (suc n) xs ls → Cons (cofactor names place) (λ x. CofactorsFrom (place + 1) n) xs ls
+      apart : (xs : List Expr) (ls : List Lexeme) → CofactorsFrom place (suc n) xs ls →
+          Cons (cofactor names place) (λ x. CofactorsFrom (place + 1) n) xs ls
       apart [] ls h = cc (h.0)
       apart (x ∷ xs) ls h = let size = h.0 in record { head = x; tail = xs; value = refl; spelled = replaced h.1 (omega (arith, size), h.1.second) }
 
@@ -80,7 +86,8 @@ Lines variables count r =
     ▸ each_with (part (declared variables) (codes "part") false) (summed_texts variables) r.factors
     ▸ CofactorsFrom (declared variables) 1 count r.cofactors
 
-pub report_lines_rule : (variables : List Naming) (count : ℕ) → 1 + count ≤ largest_norm → Rule None any (rules.report_lines variables count) (Lines variables count) anywhere
+pub report_lines_rule : (variables : List Naming) (count : ℕ) → 1 + count ≤ largest_norm →
+    Rule None any (rules.report_lines variables count) (Lines variables count) anywhere
 unfolding rules.report_lines Lines
 report_lines_rule variables count low =
     grouped (grouped (grouped (grouped (grouped (passes (header_rule (codes "report"))
@@ -90,7 +97,16 @@ report_lines_rule variables count low =
     reads (λ r. r.scale) (keyed_rule names (codes "scale") false) (λ scale.
     reads (λ r. r.factors) (whole_list (each_rule (λ text. part_rule names (codes "part") text false) summed [])) (λ factors.
     reads_last (λ r. r.cofactors)
-    (λ xs. record { index = place.0; order = place.1; degree = place.2; telescoper = telescoper; quotients = quotients; scale = scale; factors = factors; cofactors = xs })
+    (λ xs. record {
+      index = place.0;
+      order = place.1;
+      degree = place.2;
+      telescoper = telescoper;
+      quotients = quotients;
+      scale = scale;
+      factors = factors;
+      cofactors = xs;
+    })
     (whole_list (cofactors_rule names 1 count [] low)) (λ xs. ((((((tt, refl), refl), refl), refl), refl), refl))
     (λ r known. rw (← known.0.0.0.0.1, ← known.0.0.0.1, ← known.0.0.1, ← known.0.1, ← known.1) refl))))))))))))
   where

@@ -24,7 +24,12 @@ Takes-at_end : Takes None rules.at_end tt nothing nothing
 unfolding rules.at_end
 Takes-at_end i used rest here e u after =
     let none : shown i ≡ [] = e ∙ ap (λ ls. ls ++ rest) u ∙ after in
-    record { left = i; reads = ap (λ (left : List Token). rules.at_end_by left i) (none_left i none); shows = none ∙ sym after; follows = Follows-same i }
+    record {
+      left = i;
+      reads = ap (λ (left : List Token). rules.at_end_by left i) (none_left i none);
+      shows = none ∙ sym after;
+      follows = Follows-same i;
+    }
 
 -- the end of a line, which is there
 Takes-full_end : Takes None rules.full_line_end tt (one LineEnd) nothing
@@ -87,7 +92,8 @@ module _ (variables : List Naming) (count : ℕ) (bytes : List ℕ) (from : ℕ)
   start : Input
   start = input_of_scan bytes (scan_of bytes from)
 
-  text_is : (r : Report) (j : Input) → 1 + count ≤ largest_norm → is_plain (drop from bytes) ≡ true → rules.report variables count start ≡ Ok (r, j) → ReportStandsFor variables count bytes from r
+  text_is : (r : Report) (j : Input) → 1 + count ≤ largest_norm → is_plain (drop from bytes) ≡ true → rules.report variables count start ≡ Ok (r, j) →
+      ReportStandsFor variables count bytes from r
   unfolding start rules.report Lines
   text_is r j low plain e =
       let f = first_read (rules.report_lines variables count) (λ q. rules.finish >> pure q) start j r e in
@@ -95,7 +101,8 @@ module _ (variables : List Naming) (count : ℕ) (bytes : List ℕ) (from : ℕ)
       let end = finish_is f.left g.left g.first in
       let lines = ((report_lines_rule variables count low).sound start f.left f.value f.first).1 in
       let s = lines.spelled end.0 in
-      let value : f.value ≡ r = let pairs : ◌≡◌ {A = Report × Input} (f.value, g.left) (r, j) = cc (g.second) in ap (λ (q : Report × Input). q.0) pairs in
+      let value : f.value ≡ r = let pairs : ◌≡◌ {A = Report × Input} (f.value, g.left) (r, j) = cc (g.second) in
+      ap (λ (q : Report × Input). q.0) pairs in
       subst (ReportStandsFor variables count bytes from) value (record {
         plain = plain;
         lexical = sym lines.follows.same_bad ∙ end.1.1;
@@ -103,19 +110,23 @@ module _ (variables : List Naming) (count : ℕ) (bytes : List ℕ) (from : ℕ)
         lines = record { front = s.used; back = shown f.left; parts = s.parts; first = replaced s.spells s.spells.second.1; second = end.1.0 };
       })
 
-  pub report_spelled : (r : Report) → 1 + count ≤ largest_norm → report_of variables count bytes from ≡ Some r → ReportStandsFor variables count bytes from r
+  pub report_spelled : (r : Report) → 1 + count ≤ largest_norm → report_of variables count bytes from ≡ Some r →
+      ReportStandsFor variables count bytes from r
   unfolding report_of start
   report_spelled r low e = by (is_plain (drop from bytes)) refl e
     where
-      read : is_plain (drop from bytes) ≡ true → (o : Outcome Report) → rules.report variables count start ≡ o → found o ≡ Some r → ReportStandsFor variables count bytes from r
+      read : is_plain (drop from bytes) ≡ true → (o : Outcome Report) → rules.report variables count start ≡ o → found o ≡ Some r →
+          ReportStandsFor variables count bytes from r
       read plain (Err e) same h = cc
       read plain (Ok q) same h = let value : q.0 ≡ r = cc in subst (ReportStandsFor variables count bytes from) value (text_is q.0 q.1 low plain same)
 
-      by : (plain : Bool) → is_plain (drop from bytes) ≡ plain → cond plain (found (rules.report variables count start)) None ≡ Some r → ReportStandsFor variables count bytes from r
+      by : (plain : Bool) → is_plain (drop from bytes) ≡ plain → cond plain (found (rules.report variables count start)) None ≡ Some r →
+          ReportStandsFor variables count bytes from r
       by true plain h = read plain (rules.report variables count start) refl h
       by false plain h = cc
 
-  pub report_taken : (r : Report) → count < largest_norm → ReportStandsFor variables count bytes from r → report_of variables count bytes from ≡ Some r
+  pub report_taken : (r : Report) → count < largest_norm → ReportStandsFor variables count bytes from r →
+      report_of variables count bytes from ≡ Some r
   unfolding report_of start rules.report Lines
   report_taken r few s =
       let whole : shown start ≡ shown start ++ [] = sym (append-nil (shown start)) in

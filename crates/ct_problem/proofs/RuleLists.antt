@@ -21,15 +21,19 @@ module _ {X : Type 0} where
     pub spelled : (L head ▸ C head tail) ls
 
   module _ {bad : Option ℕ} {F : Texts} (B : List X → Texts) (found : List X) where
-    pub no_item : ((ls : List Lexeme) → nothing ls → B [] ls) → ((xs : List X) (ls : List Lexeme) → B xs ls → (xs ≡ []) × nothing ls) → Rule bad any (pure found) (More B found) F
+    pub no_item : ((ls : List Lexeme) → nothing ls → B [] ls) → ((xs : List X) (ls : List Lexeme) → B xs ls → (xs ≡ []) × nothing ls) →
+        Rule bad any (pure found) (More B found) F
     no_item none only =
-        rule (Goes-pure (More B found) found (λ ls d. record { more = []; value = sym (append-nil found); spelled = none ls d })) (λ xs i used rest here e m after.
+        rule (Goes-pure (More B found) found (λ ls d. record { more = []; value = sym (append-nil found); spelled = none ls d }))
+        (λ xs i used rest here e m after.
         let o = only m.more used m.spelled in
         let same : found ≡ xs = sym (m.value ∙ ap (λ (ys : List X). found ++ ys) o.0 ∙ append-nil found) in
         Takes-value bad same (Takes-pure bad found F) i used rest here e o.1 after)
 
-    pub one_item : {p : Parser X} {f : X → Parser (List X)} {L : X → Texts} {C : X → List X → Texts} {G : Texts} → Rule bad any p L G → ((x : X) → Rule bad any (f x) (More (C x) (found ++ x ∷ [])) F)
-        → ((x : X) (xs : List X) (ls : List Lexeme) → (L x ▸ C x xs) ls → B (x ∷ xs) ls) → ((xs : List X) (ls : List Lexeme) → B xs ls → Cons L C xs ls)
+    pub one_item : {p : Parser X} {f : X → Parser (List X)} {L : X → Texts} {C : X → List X → Texts} {G : Texts} → Rule bad any p L G →
+        ((x : X) → Rule bad any (f x) (More (C x) (found ++ x ∷ [])) F)
+        → ((x : X) (xs : List X) (ls : List Lexeme) → (L x ▸ C x xs) ls → B (x ∷ xs) ls) →
+        ((xs : List X) (ls : List Lexeme) → B xs ls → Cons L C xs ls)
         → ((x : X) (xs : List X) (back rest : List Lexeme) → C x xs back → F rest → G (back ++ rest)) → Rule bad any (p >>= f) (More B found) F
     one_item {p} {f} {L} {C} first others add split between =
         rule (Goes-whole f (goes first) (λ x. Goes-as (goes (others x)) (λ xs ls h. record {
@@ -38,10 +42,12 @@ module _ {X : Type 0} where
           spelled = add x h.second.more ls (replaced h h.second.spelled);
         }))) (λ xs i used rest here e m after.
         let s = split m.more used m.spelled in
-        let value : xs ≡ (found ++ s.head ∷ []) ++ s.tail = m.value ∙ ap (λ (ys : List X). found ++ ys) s.value ∙ sym (append_assoc found (s.head ∷ []) s.tail) in
+        let value : xs ≡ (found ++ s.head ∷ []) ++ s.tail = m.value ∙ ap (λ (ys : List X). found ++ ys) s.value
+        ∙ sym (append_assoc found (s.head ∷ []) s.tail) in
         Takes-bind bad f (takes first s.head) (takes (others s.head) xs) (λ back ls k. between s.head k.more back ls k.spelled) i used rest here e
         (replaced s.spelled (record { more = s.tail; value = value; spelled = s.spelled.second })) after)
 
   pub whole_list : {bad : Option ℕ} {F : Texts} {B : List X → Texts} {p : Parser (List X)} → Rule bad any p (More B []) F → Rule bad any p B F
   whole_list {B = B} all =
-      like (λ xs ls m. subst (λ (ys : List X). B ys ls) (sym m.value) m.spelled) (λ xs ls b. record { more = xs; value = refl; spelled = b }) (λ rest a. a) all
+      like (λ xs ls m. subst (λ (ys : List X). B ys ls) (sym m.value) m.spelled) (λ xs ls b. record { more = xs; value = refl; spelled = b })
+      (λ rest a. a) all

@@ -5,7 +5,8 @@
 --     reads and others     the steps that every rule is made of
 --     Split M N y ls       the same of two rules where the whole value doesn't tell that of the first
 use Rattle.ct_problem.proofs.Base.{◌≡◌, ℕ, Bool, true, false, List, [], ◌∷◌, ◌++◌, Option, Ok, refl, sym, ap, ◌∙◌, subst, append_assoc, append-nil}
-use Rattle.ct_problem.proofs.Base.{BadKind, Input, Outcome, Parser, ◌>>=◌, ◌>>◌, and_then, look, pure, line_end, dots, expect, expect_word, largest_norm, ◌≤◌}
+use Rattle.ct_problem.proofs.Base.{BadKind, Input, Outcome, Parser, ◌>>=◌, ◌>>◌, and_then, look, pure, line_end, dots, expect, expect_word}
+use Rattle.ct_problem.proofs.Base.{largest_norm, ◌≤◌}
 use Rattle.ct_problem.proofs.Base.{Lexeme, Word, Number, Sign, Dots, LineEnd, Texts, nothing, one, number, ◌▸◌}
 use Rattle.ct_problem.specs.Number as digits
 use Rattle.ct_problem.proofs.Frame.{Goes_on, Follows, Follows-same, Follows-then, joined, joined_to_left, joined_to_right, shown, Spelled, Spells}
@@ -60,24 +61,33 @@ module _ {bad : Option ℕ} {A : Type 0} where
 
   -- a rule that asks for no token behind it
   pub step : {p : Parser A} {L : A → Texts} {F : Texts} → Spells p L → ((x : A) → Takes bad p x (L x) F) → Rule bad any p L F
-  step spells takes = record { sound = λ i j x e. let s = spells i j x e in (tt, record { follows = s.follows; spelled = λ _. s }); whole = λ x _. takes x }
+  step spells takes = record {
+    sound = λ i j x e. let s = spells i j x e in (tt, record { follows = s.follows; spelled = λ _. s });
+    whole = λ x _. takes x;
+  }
 
   pub goes : {p : Parser A} {L : A → Texts} {F : Texts} → Rule bad any p L F → Goes nothing p L
   goes {L = L} r i j x e =
       let s = (r.sound i j x e).1 in
-      record { follows = s.follows; spelled = λ before none left. Spelled-mapped (λ ls l. subst (λ (front : List Lexeme). L x (front ++ ls)) (sym none) l) (s.spelled left) }
+      record {
+        follows = s.follows;
+        spelled = λ before none left. Spelled-mapped (λ ls l. subst (λ (front : List Lexeme). L x (front ++ ls)) (sym none) l) (s.spelled left);
+      }
 
   pub takes : {p : Parser A} {L : A → Texts} {F : Texts} → Rule bad any p L F → (x : A) → Takes bad p x (L x) F
   takes r x = r.whole x tt
 
-  pub like : {K : A → Type 0} {p : Parser A} {L M : A → Texts} {F G : Texts} → ((x : A) (ls : List Lexeme) → L x ls → M x ls) → ((x : A) (ls : List Lexeme) → M x ls → L x ls)
+  pub like : {K : A → Type 0} {p : Parser A} {L M : A → Texts} {F G : Texts} → ((x : A) (ls : List Lexeme) → L x ls → M x ls) →
+      ((x : A) (ls : List Lexeme) → M x ls → L x ls)
       → ((rest : List Lexeme) → G rest → F rest) → Rule bad K p L F → Rule bad K p M G
   like {p = p} {L = L} {M = M} {F = F} {G = G} there back allowed r = record {
-    sound = λ i j x e. let s = r.sound i j x e in (s.0, record { follows = s.1.follows; spelled = λ left. Spelled-mapped (there x) (s.1.spelled left) });
+    sound = λ i j x e. let s = r.sound i j x e in
+        (s.0, record { follows = s.1.follows; spelled = λ left. Spelled-mapped (there x) (s.1.spelled left) });
     whole = λ x known. Takes-as bad (L x) (M x) F G p x (back x) allowed (r.whole x known);
   }
 
-  pub grouped : {K : A → Type 0} {p : Parser A} {a b c : A → Texts} {F : Texts} → Rule bad K p (λ x. a x ▸ (b x ▸ c x)) F → Rule bad K p (λ x. a x ▸ b x ▸ c x) F
+  pub grouped : {K : A → Type 0} {p : Parser A} {a b c : A → Texts} {F : Texts} → Rule bad K p (λ x. a x ▸ (b x ▸ c x)) F →
+      Rule bad K p (λ x. a x ▸ b x ▸ c x) F
   grouped r = like (λ x ls h. joined_to_left h) (λ x ls h. joined_to_right h) (λ rest a. a) r
 
   -- a value that is known
@@ -91,7 +101,8 @@ module _ {bad : Option ℕ} {A : Type 0} where
 
 module _ {bad : Option ℕ} {A B : Type 0} {K : B → Type 0} where
   -- one rule after the other, of which the first reads a part of the value
-  pub reads_before : {p : Parser A} {f : A → Parser B} {M : A → Texts} {N : B → Texts} {F G : Texts} (part : B → A) → Rule bad any p M G → ((x : A) → Rule bad (λ y. K y × (part y ≡ x)) (f x) N F)
+  pub reads_before : {p : Parser A} {f : A → Parser B} {M : A → Texts} {N : B → Texts} {F G : Texts} (part : B → A) → Rule bad any p M G →
+      ((x : A) → Rule bad (λ y. K y × (part y ≡ x)) (f x) N F)
       → ((y : B) (back rest : List Lexeme) → N y back → F rest → G (back ++ rest)) → Rule bad K (p >>= f) (λ y. M (part y) ▸ N y) F
   reads_before {p} {f} {M} {N} part first second between = record {
     sound = λ i j y e.
@@ -103,12 +114,14 @@ module _ {bad : Option ℕ} {A B : Type 0} {K : B → Type 0} where
   }
 
   -- the same, where the first rule needs nothing of what comes after it
-  pub reads : {p : Parser A} {f : A → Parser B} {M : A → Texts} {N : B → Texts} {F : Texts} (part : B → A) → Rule bad any p M anywhere → ((x : A) → Rule bad (λ y. K y × (part y ≡ x)) (f x) N F)
+  pub reads : {p : Parser A} {f : A → Parser B} {M : A → Texts} {N : B → Texts} {F : Texts} (part : B → A) → Rule bad any p M anywhere →
+      ((x : A) → Rule bad (λ y. K y × (part y ≡ x)) (f x) N F)
       → Rule bad K (p >>= f) (λ y. M (part y) ▸ N y) F
   reads part first second = reads_before part first second (λ y back rest n after. tt)
 
   -- the last part of a value
-  pub reads_last : {p : Parser A} {M : A → Texts} {F : Texts} (part : B → A) (make : A → B) → Rule bad any p M F → ((x : A) → K (make x) × (part (make x) ≡ x)) → ((y : B) → K y → make (part y) ≡ y)
+  pub reads_last : {p : Parser A} {M : A → Texts} {F : Texts} (part : B → A) (make : A → B) → Rule bad any p M F →
+      ((x : A) → K (make x) × (part (make x) ≡ x)) → ((y : B) → K y → make (part y) ≡ y)
       → Rule bad K (p >>= (λ x. pure (make x))) (λ y. M (part y)) F
   reads_last {p} {M} part make first known only = record {
     sound = λ i j y e.
@@ -117,15 +130,19 @@ module _ {bad : Option ℕ} {A B : Type 0} {K : B → Type 0} where
         let pairs : ◌≡◌ {A = B × Input} (make r.value, r.left) (y, j) = cc (r.second) in
         let here = subst (λ (x : A). Read (M x) i r.left) (sym (known r.value).1) s in (
           subst K (ap (λ (q : B × Input). q.0) pairs) (known r.value).0,
-          subst (λ (k : Input). Read (M (part y)) i k) (ap (λ (q : B × Input). q.1) pairs) (subst (λ (z : B). Read (M (part z)) i r.left) (ap (λ (q : B × Input). q.0) pairs) here),
+          subst (λ (k : Input). Read (M (part y)) i k) (ap (λ (q : B × Input). q.1) pairs)
+              (subst (λ (z : B). Read (M (part z)) i r.left) (ap (λ (q : B × Input). q.0) pairs) here),
         );
     whole = λ y k. Takes-value bad (only y k) (Takes-last bad _ (first.whole (part y) tt) (λ i. refl));
   }
 
 module _ {bad : Option ℕ} {B : Type 0} {K : B → Type 0} where
   -- a rule that gives no value comes first
-  pub passes : {p : Parser (Unit {0})} {q : Parser B} {M : Texts} {N : B → Texts} {F : Texts} → Rule bad any p (λ _. M) anywhere → Rule bad K q N F → Rule bad K (p >> q) (λ y. M ▸ N y) F
-  passes first second = reads (λ _. tt) first (λ _. record { sound = λ i j y e. let s = second.sound i j y e in ((s.0, refl), s.1); whole = λ y known. second.whole y known.0 })
+  pub passes : {p : Parser (Unit {0})} {q : Parser B} {M : Texts} {N : B → Texts} {F : Texts} → Rule bad any p (λ _. M) anywhere → Rule bad K q N F →
+      Rule bad K (p >> q) (λ y. M ▸ N y) F
+  passes first second =
+      reads (λ _. tt) first
+      (λ _. record { sound = λ i j y e. let s = second.sound i j y e in ((s.0, refl), s.1); whole = λ y known. second.whole y known.0 })
 
   -- the end of a line, and a value that is known
   pub ends_with : (x : B) → K x → ((y : B) → K y → x ≡ y) → Rule bad K (line_end >> pure x) (λ _. one LineEnd) (IsFresh bad)
@@ -164,22 +181,27 @@ abbrev pub Made : {A : Type 0} → A → A → Texts
 Made x y ls = (x ≡ y) × nothing ls
 
 module _ {bad : Option ℕ} {A B : Type 0} where
-  pub binds : {p : Parser A} {f : A → Parser B} {M : A → Texts} {N : A → B → Texts} {F G : Texts} → Rule bad any p M G → ((x : A) → Rule bad any (f x) (N x) F)
+  pub binds : {p : Parser A} {f : A → Parser B} {M : A → Texts} {N : A → B → Texts} {F G : Texts} → Rule bad any p M G →
+      ((x : A) → Rule bad any (f x) (N x) F)
       → ((x : A) (y : B) (back rest : List Lexeme) → N x y back → F rest → G (back ++ rest)) → Rule bad any (p >>= f) (Split M N) F
   binds {p} {f} {M} {N} first second between = record {
     sound = λ i j y e.
         let r = first_read p f i j y e in
         let all = Read-joined i r.left j (first.sound i r.left r.value r.first).1 ((second r.value).sound r.left j y r.second).1 in
         (tt, Read-mapped (λ ls h. record { item = r.value; spelled = h }) all);
-    whole = λ y known i used rest here e h after. Takes-bind bad f (first.whole h.item tt) ((second h.item).whole y tt) (between h.item y) i used rest here e h.spelled after;
+    whole = λ y known i used rest here e h after. Takes-bind bad f (first.whole h.item tt) ((second h.item).whole y tt)
+        (between h.item y) i used rest here e h.spelled after;
   }
 
 module _ {bad : Option ℕ} {A : Type 0} where
   pub result : {F : Texts} (x : A) → Rule bad any (pure x) (Made x) F
   result {F} x = record {
     sound = λ i j y e.
-        let pairs : ◌≡◌ {A = A × Input} (x, i) (y, j) = cc in
-        (tt, Read-mapped (λ ls none. (ap (λ (r : A × Input). r.0) pairs, none)) (subst (Read nothing i) (ap (λ (r : A × Input). r.1) pairs) (Read-nothing i)));
+        let pairs : ◌≡◌ {A = A × Input} (x, i) (y, j) = cc in (
+          tt,
+          Read-mapped (λ ls none. (ap (λ (r : A × Input). r.0) pairs, none))
+              (subst (Read nothing i) (ap (λ (r : A × Input). r.1) pairs) (Read-nothing i)),
+        );
     whole = λ y known i used rest here e h after. Takes-value bad h.0 (Takes-pure bad x F) i used rest here e h.1 after;
   }
 
@@ -187,24 +209,33 @@ module _ {bad : Option ℕ} {A : Type 0} where
   pub same_rule : {K : A → Type 0} {p q : Parser A} {L : A → Texts} {F : Texts} → ((i : Input) → p i ≡ q i) → Rule bad K q L F → Rule bad K p L F
   same_rule same r = record {
     sound = λ i j x e. r.sound i j x (sym (same i) ∙ e);
-    whole = λ x known i used rest here e u after. let t = r.whole x known i used rest here e u after in record { left = t.left; reads = same i ∙ t.reads; shows = t.shows; follows = t.follows };
+    whole = λ x known i used rest here e u after. let t = r.whole x known i used rest here e u after in
+        record { left = t.left; reads = same i ∙ t.reads; shows = t.shows; follows = t.follows };
   }
 
   -- a rule that looks at the cursor first
-  pub looks : {Y : Type 0} {K : A → Type 0} {f : Y → Parser A} {L : A → Texts} {F : Texts} (g : Input → Y) → ((y : Y) → Rule bad K (f y) L F) → Rule bad K (look g >>= f) L F
+  pub looks : {Y : Type 0} {K : A → Type 0} {f : Y → Parser A} {L : A → Texts} {F : Texts} (g : Input → Y) → ((y : Y) → Rule bad K (f y) L F) →
+      Rule bad K (look g >>= f) L F
   looks g each = record {
     sound = λ i j x e. (each (g i)).sound i j x e;
-    whole = λ x known i used rest here e u after. let t = (each (g i)).whole x known i used rest here e u after in record { left = t.left; reads = t.reads; shows = t.shows; follows = t.follows };
+    whole = λ x known i used rest here e u after. let t = (each (g i)).whole x known i used rest here e u after in
+        record { left = t.left; reads = t.reads; shows = t.shows; follows = t.follows };
   }
 
   -- a test that has to fail comes first
-  pub unless : {p : Parser A} {L : A → Texts} {F : Texts} (test : Bool → Parser (Unit {0})) (b : Bool) → ((i j : Input) (x : A) → (test true >> p) i ≡ Ok (x, j) → ⊥) → ((i : Input) → test false i ≡ Ok (tt, i))
+  pub unless : {p : Parser A} {L : A → Texts} {F : Texts} (test : Bool → Parser (Unit {0})) (b : Bool) →
+      ((i j : Input) (x : A) → (test true >> p) i ≡ Ok (x, j) → ⊥) → ((i : Input) → test false i ≡ Ok (tt, i))
       → Rule bad any p L F → Rule bad any (test b >> p) (λ x ls. (b ≡ false) × L x ls) F
   unless {p} {L} test b fails passed r = record {
     sound = λ i j x e. by b i j x e;
     whole = λ x known i used rest here e u after.
         let t = r.whole x known i used rest here e u.1 after in
-        record { left = t.left; reads = ap (λ (c : Bool). (test c >> p) i) u.0 ∙ ap (λ o. and_then o (λ _. p)) (passed i) ∙ t.reads; shows = t.shows; follows = t.follows };
+        record {
+          left = t.left;
+          reads = ap (λ (c : Bool). (test c >> p) i) u.0 ∙ ap (λ o. and_then o (λ _. p)) (passed i) ∙ t.reads;
+          shows = t.shows;
+          follows = t.follows;
+        };
   }
     where
       by : (c : Bool) (i j : Input) (x : A) → (test c >> p) i ≡ Ok (x, j) → any x × Read (λ ls. (c ≡ false) × L x ls) i j

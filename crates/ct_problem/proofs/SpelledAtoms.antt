@@ -29,7 +29,8 @@ the_word w i here e =
 
 Spells-whole : Spells whole (number largest_norm)
 unfolding whole
-Spells-whole = Spells-coming (number largest_norm) (λ n. skip >> pure n) (λ n i j x c h. moved (number largest_norm) i n x (next i) j h (Coming-taken i n largest_norm c c.small))
+Spells-whole = Spells-coming (number largest_norm) (λ n. skip >> pure n)
+    (λ n i j x c h. moved (number largest_norm) i n x (next i) j h (Coming-taken i n largest_norm c c.small))
 
 -- a number other than 0
 abbrev Divisor : ℕ → Texts
@@ -41,7 +42,8 @@ Spells-divisor = Spells-coming Divisor (λ n. fault_if (n == 0) ZeroDenominator 
     let t = test_failed (n == 0) ZeroDenominator (skip >> pure n) i j x h in
     let none = t.0 in
     let some : n ≢ 0 = λ zero. first_of (search (rules, tests), grind (arith, tests)) in
-    moved Divisor i n x (next i) j t.1 (Spelled-as (number largest_norm n) (Divisor n) i (next i) (λ ls u. (some, u)) (Coming-taken i n largest_norm c c.small)))
+    moved Divisor i n x (next i) j t.1
+    (Spelled-as (number largest_norm n) (Divisor n) i (next i) (λ ls u. (some, u)) (Coming-taken i n largest_norm c c.small)))
 
 module _ (names : Names) (operators : Bool) where
   -- ---- symbols
@@ -54,14 +56,22 @@ module _ (names : Names) (operators : Bool) where
     value : x ≡ e.Symbol at
     spelled : one (Word letters) ls
 
-  acting_name : (action : Action) (i j : Input) (x : Expr) → input.symbol i ≡ Some symbol.Word → (k : Known) → known (spelling i) names ≡ k → acting_by names action k i ≡ Ok (x, j) → Spelled (Acts action x) i j
+  acting_name : (action : Action) (i j : Input) (x : Expr) → input.symbol i ≡ Some symbol.Word → (k : Known) → known (spelling i) names ≡ k →
+      acting_by names action k i ≡ Ok (x, j) → Spelled (Acts action x) i j
   acting_name action i j x is_word (Variable at) found h = by (acts_as action (slice_get names.variables at)) refl h
     where
-      by : (acts : Bool) → acts_as action (slice_get names.variables at) ≡ acts → cond {A = Parser Expr} acts (skip >> pure (e.Symbol at)) (fault WrongKind) i ≡ Ok (x, j) → Spelled (Acts action x) i j
+      by : (acts : Bool) → acts_as action (slice_get names.variables at) ≡ acts →
+          cond {A = Parser Expr} acts (skip >> pure (e.Symbol at)) (fault WrongKind) i ≡ Ok (x, j) → Spelled (Acts action x) i j
       by true acts h =
           moved (Acts action) i (e.Symbol at) x (next i) j h
           (Spelled-as (one (Word (spelling i))) (Acts action (e.Symbol at)) i (next i)
-          (λ ls u. record { letters = spelling i; at = at; acting = record { first = variable-known (spelling i) at names found; acts = acts }; value = refl; spelled = u })
+          (λ ls u. record {
+            letters = spelling i;
+            at = at;
+            acting = record { first = variable-known (spelling i) at names found; acts = acts };
+            value = refl;
+            spelled = u;
+          })
           (taken (Word (spelling i)) i refl (shown-symbol i symbol.Word is_word)))
       by false acts h = cc
   acting_name action i j x is_word (Let at) found h = cc
@@ -83,13 +93,15 @@ module _ (names : Names) (operators : Bool) where
   Symbolic : Action → List ℕ → Expr → Texts
   Symbolic action w x = one (Word w) ▸ one (Sign 91) ▸ Acts action x ▸ one (Sign 93)
 
-  Continues-symbol : (action : Action) (w : List ℕ) → Continues (one (Word w)) (expect 91 >> (acting names action >>= (λ found. expect 93 >> pure found))) (Symbolic action w)
+  Continues-symbol : (action : Action) (w : List ℕ) →
+      Continues (one (Word w)) (expect 91 >> (acting names action >>= (λ found. expect 93 >> pure found))) (Symbolic action w)
   unfolding Symbolic
   Continues-symbol action w =
       Continues-bind _ (Symbolic action w) _ _ (Spells-expect 91) (λ _. Continues-bind _ (Symbolic action w) _ _ (Spells-acting action) (λ x.
       Continues-bind _ (Symbolic action w) _ _ (Spells-expect 93) (λ _. Continues-pure (Symbolic action w) x (λ ls h. h))))
 
-  symbol_is : (action : Action) (w : List ℕ) (i j : Input) (x : Expr) → input.symbol i ≡ Some symbol.Word → spelling i ≡ w → symbol_by names action i ≡ Ok (x, j) → Spelled (Symbolic action w x) i j
+  symbol_is : (action : Action) (w : List ℕ) (i j : Input) (x : Expr) → input.symbol i ≡ Some symbol.Word → spelling i ≡ w →
+      symbol_by names action i ≡ Ok (x, j) → Spelled (Symbolic action w x) i j
   unfolding symbol_by Symbolic
   symbol_is action w i j x is_word same h =
       let head = subst (λ (letters : List ℕ). shown i ≡ Word letters ∷ after_first (shown i)) same (shown-symbol i symbol.Word is_word) in
@@ -107,13 +119,16 @@ module _ (names : Names) (operators : Bool) where
     Spells-constant =
         Spells-bind _ Atom _ _ Spells-whole (λ n. Continues-bind _ Atom _ _ (Spells-eat 47) (λ is_ratio. by n is_ratio))
       where
-        by : (n : ℕ) (is_ratio : Bool) → Continues (number largest_norm n ▸ optional (Sign 47) is_ratio) (cond is_ratio (divisor >>= (λ d. pure (e.Ratio (pos n) (pos d)))) (pure (e.Whole (pos n)))) Atom
+        by : (n : ℕ) (is_ratio : Bool) →
+            Continues (number largest_norm n ▸ optional (Sign 47) is_ratio)
+            (cond is_ratio (divisor >>= (λ d. pure (e.Ratio (pos n) (pos d)))) (pure (e.Whole (pos n)))) Atom
         by n true =
             Continues-bind _ Atom _ _ Spells-divisor (λ d. Continues-pure Atom (e.Ratio (pos n) (pos d)) (λ ls h.
             IsAtom.ratio n d refl h.second.0 (record { front = h.front; back = h.back; parts = h.parts; first = h.first; second = h.second.1 })))
         by n false = Continues-pure Atom (e.Whole (pos n)) (λ ls h. IsAtom.whole n refl (joined_nothing h))
 
-    name_is : (i j : Input) (x : Expr) → input.symbol i ≡ Some symbol.Word → spelling i ≢ codes "S" → spelling i ≢ codes "D" → name names i ≡ Ok (x, j) → Spelled (Atom x) i j
+    name_is : (i j : Input) (x : Expr) → input.symbol i ≡ Some symbol.Word → spelling i ≢ codes "S" → spelling i ≢ codes "D" →
+        name names i ≡ Ok (x, j) → Spelled (Atom x) i j
     unfolding name
     name_is i j x is_word no_shift no_derivation h = by (known (spelling i) names) refl h
       where
@@ -121,7 +136,8 @@ module _ (names : Names) (operators : Bool) where
         by (Variable at) found h =
             moved Atom i (e.Name at) x (next i) j h
             (Spelled-as (one (Word (spelling i))) (Atom (e.Name at)) i (next i)
-            (λ ls u. IsAtom.variable (spelling i) at (record { no_shift = no_shift; no_derivation = no_derivation; first = variable-known (spelling i) at names found }) refl u)
+            (λ ls u. IsAtom.variable (spelling i) at
+            (record { no_shift = no_shift; no_derivation = no_derivation; first = variable-known (spelling i) at names found }) refl u)
             (taken (Word (spelling i)) i refl (shown-symbol i symbol.Word is_word)))
         by (Let at) found h = cc
         by Unknown found h = cc
@@ -157,15 +173,18 @@ module _ (names : Names) (operators : Bool) where
         by : (o : Bool) → operators ≡ o → (s : Bool) → sees_word (codes "S") i ≡ s → (d : Bool) → sees_word (codes "D") i ≡ d
             → word_by names operators o (cond s (Some Shift) (cond d (Some Derive) None)) i ≡ Ok (x, j) → Spelled (Atom x) i j
         by true allowed true is_shift d is_derivation h =
-            Spelled-as (Symbolic Shift (codes "S") x) (Atom x) i j (shift_atom allowed x) (symbol_is Shift (codes "S") i j x is_word (the_word (codes "S") i is_word is_shift) h)
+            Spelled-as (Symbolic Shift (codes "S") x) (Atom x) i j (shift_atom allowed x)
+            (symbol_is Shift (codes "S") i j x is_word (the_word (codes "S") i is_word is_shift) h)
         by false barred true is_shift d is_derivation h = cc
         by true allowed false is_shift true is_derivation h =
-            Spelled-as (Symbolic Derive (codes "D") x) (Atom x) i j (derivation_atom allowed x) (symbol_is Derive (codes "D") i j x is_word (the_word (codes "D") i is_word is_derivation) h)
+            Spelled-as (Symbolic Derive (codes "D") x) (Atom x) i j (derivation_atom allowed x)
+            (symbol_is Derive (codes "D") i j x is_word (the_word (codes "D") i is_word is_derivation) h)
         by false barred false is_shift true is_derivation h = cc
         by o same false is_shift false is_derivation h =
             name_is i j x is_word (other_word (codes "S") i is_word is_shift) (other_word (codes "D") i is_word is_derivation) h
 
-    atom_is : (i j : Input) (x : Expr) → (o : Option Symbol) → input.symbol i ≡ o → atom_by names operators inner o i ≡ Ok (x, j) → Spelled (Atom x) i j
+    atom_is : (i j : Input) (x : Expr) → (o : Option Symbol) → input.symbol i ≡ o → atom_by names operators inner o i ≡ Ok (x, j) →
+        Spelled (Atom x) i j
     atom_is i j x (Some symbol.Number) same h = Spells-constant i j x h
     atom_is i j x (Some symbol.Word) same h = word_is i j x same h
     atom_is i j x (Some (symbol.Sign s)) same h = by (s == 40) refl h
@@ -173,7 +192,8 @@ module _ (names : Names) (operators : Bool) where
         by : (b : Bool) → s == 40 ≡ b → cond b inner syntax i ≡ Ok (x, j) → Spelled (Atom x) i j
         by true is_open h =
             let open_sign : s ≡ 40 = first_of (search (rules, tests), grind (arith, tests)) in
-            Spelled-as (InParentheses x) (Atom x) i j (λ ls u. IsAtom.nested u) (opens i j x (same ∙ ap (λ (n : ℕ). Some (symbol.Sign n)) open_sign) h)
+            Spelled-as (InParentheses x) (Atom x) i j (λ ls u. IsAtom.nested u)
+            (opens i j x (same ∙ ap (λ (n : ℕ). Some (symbol.Sign n)) open_sign) h)
         by false other h = cc
     atom_is i j x (Some symbol.Dots) same h = cc
     atom_is i j x (Some symbol.LineEnd) same h = cc

@@ -15,7 +15,8 @@ at text left bad = record { text = text; left = left; bad = bad }
 -- ---- what comes behind
 
 module _ (text : List ℕ) (x y : ℕ) (m : Input) where
-  fresh_is : (b : Bool) (left : List Token) (bad : Option ℕ) → has_line_end left ≡ b → (fresh_by b bad >> (λ i. trailing_by i.left i) >> pure x) (at text left bad) ≡ Ok (y, m) → (x ≡ y) × ((left ≡ []) × (bad ≡ None))
+  fresh_is : (b : Bool) (left : List Token) (bad : Option ℕ) → has_line_end left ≡ b →
+      (fresh_by b bad >> (λ i. trailing_by i.left i) >> pure x) (at text left bad) ≡ Ok (y, m) → (x ≡ y) × ((left ≡ []) × (bad ≡ None))
   unfolding at has_line_end
   fresh_is true [] bad e h = absurd (false≢true e)
   fresh_is true (t ∷ ts) bad e h = cc
@@ -28,7 +29,8 @@ module _ (text : List ℕ) (x y : ℕ) (m : Input) where
   unfolding nothing_left fresh_line at
   nothing_is left bad h = fresh_is (has_line_end left) left bad refl h
 
-  behind_is : (command : Command) (left : List Token) (bad : Option ℕ) → (behind_end command >> pure x) (at text left bad) ≡ Ok (y, m) → (x ≡ y) × MayFollow command left bad
+  behind_is : (command : Command) (left : List Token) (bad : Option ℕ) → (behind_end command >> pure x) (at text left bad) ≡ Ok (y, m) →
+      (x ≡ y) × MayFollow command left bad
   behind_is Check left bad h = let pairs : ◌≡◌ {A = ℕ × Input} (x, at text left bad) (y, m) = cc in (ap (λ (r : ℕ × Input). r.0) pairs, tt)
   behind_is Telescope left bad h = nothing_is left bad h
   behind_is Reduce left bad h = nothing_is left bad h
@@ -48,17 +50,25 @@ record Ending (command : Command) (text : List ℕ) (left : List Token) (bad : O
   behind : MayFollow command rest bad
 
 module _ (command : Command) (text : List ℕ) (bad : Option ℕ) (place : ℕ) (m : Input) where
-  ending_of : (t : Token) (ts : List Token) (s : Symbol) → t.symbol ≡ s → (ending_by (Some s) >>= (λ x. behind_end command >> pure x)) (at text (t ∷ ts) bad) ≡ Ok (place, m) → Ending command text (t ∷ ts) bad place
+  ending_of : (t : Token) (ts : List Token) (s : Symbol) → t.symbol ≡ s →
+      (ending_by (Some s) >>= (λ x. behind_end command >> pure x)) (at text (t ∷ ts) bad) ≡ Ok (place, m) → Ending command text (t ∷ ts) bad place
   unfolding at
   ending_of t ts symbol.LineEnd e h =
       let b = behind_is text t.to place m command ts bad h in
-      record { end = t ∷ []; rest = ts; parts = refl; ends = (ap (λ (s : Symbol). lexeme_of s (slice t.from t.to text) ∷ []) e, sym b.0); behind = b.1 }
+      record {
+        end = t ∷ [];
+        rest = ts;
+        parts = refl;
+        ends = (ap (λ (s : Symbol). lexeme_of s (slice t.from t.to text) ∷ []) e, sym b.0);
+        behind = b.1;
+      }
   ending_of t ts symbol.Word e h = cc
   ending_of t ts symbol.Number e h = cc
   ending_of t ts (symbol.Sign s) e h = cc
   ending_of t ts symbol.Dots e h = cc
 
-  ending_is : (left : List Token) → (left ≡ [] → bad ≡ None) → (ending >>= (λ x. behind_end command >> pure x)) (at text left bad) ≡ Ok (place, m) → Ending command text left bad place
+  ending_is : (left : List Token) → (left ≡ [] → bad ≡ None) → (ending >>= (λ x. behind_end command >> pure x)) (at text left bad) ≡ Ok (place, m) →
+      Ending command text left bad place
   unfolding ending at
   ending_is [] none h =
       let b = behind_is text (length text) place m command [] bad h in
@@ -90,7 +100,8 @@ no_line_end s e = ap is_line_end e
 
 module _ (command : Command) (p : Reading) (text : List ℕ) (bad : Option ℕ) (place : ℕ) (m : Input) where
   after_word : (t : Token) (ts : List Token) → Settled (at text (t ∷ ts) bad) → sees_word (codes "end") (at text (t ∷ ts) bad) ≡ true
-      → (fault_if (lacks command p) Missing >> (skip >> (ending >>= (λ x. behind_end command >> pure x)))) (at text (t ∷ ts) bad) ≡ Ok (place, m) → Last command p text (t ∷ ts) bad place
+      → (fault_if (lacks command p) Missing >> (skip >> (ending >>= (λ x. behind_end command >> pure x)))) (at text (t ∷ ts) bad) ≡ Ok (place, m) →
+      Last command p text (t ∷ ts) bad place
   unfolding at lacks sees_word has_line_end
   after_word t ts settled begins h =
       let test = test_failed (lacks command p) Missing (skip >> (ending >>= (λ x. behind_end command >> pure x))) (at text (t ∷ ts) bad) m place h in
@@ -98,7 +109,8 @@ module _ (command : Command) (p : Reading) (text : List ℕ) (bad : Option ℕ) 
       let first : lexeme_of t.symbol (slice t.from t.to text) ≡ Word (codes "end") = cc in
       let word : Some t.symbol ≡ Some symbol.Word = a_word (Some t.symbol) (spelling_in text (t ∷ ts)) (codes "end") begins in
       let is : t.symbol ≡ symbol.Word = cc in
-      let e = ending_is command text bad place m ts (λ none. settled.whole (λ empty. cc) (ap (λ (us : List Token). has_line_end (t ∷ us)) none ∙ last t is)) test.1 in
+      let e = ending_is command text bad place m ts
+      (λ none. settled.whole (λ empty. cc) (ap (λ (us : List Token). has_line_end (t ∷ us)) none ∙ last t is)) test.1 in
       record {
         needs = not_false (has_needs command p) test.0;
         word = t;
@@ -114,12 +126,14 @@ module _ (command : Command) (p : Reading) (text : List ℕ) (bad : Option ℕ) 
       last t is = rw (no_line_end t.symbol is) refl
 
   last_of : (left : List Token) → Settled (at text left bad) → (b : Bool) → sees_word (codes "end") (at text left bad) ≡ b
-      → (cond b (fault_if (lacks command p) Missing) syntax >> (skip >> (ending >>= (λ x. behind_end command >> pure x)))) (at text left bad) ≡ Ok (place, m) → Last command p text left bad place
+      → (cond b (fault_if (lacks command p) Missing) syntax >> (skip >> (ending >>= (λ x. behind_end command >> pure x)))) (at text left bad) ≡
+      Ok (place, m) → Last command p text left bad place
   unfolding at sees_word
   last_of [] settled true begins h = absurd (false≢true begins)
   last_of (t ∷ ts) settled true begins h = after_word t ts settled begins h
   last_of left settled false begins h = cc
 
-  pub last_is : (left : List Token) → Settled (record { text = text; left = left; bad = bad }) → last_line command p (record { text = text; left = left; bad = bad }) ≡ Ok (place, m) → Last command p text left bad place
+  pub last_is : (left : List Token) → Settled (record { text = text; left = left; bad = bad }) →
+      last_line command p (record { text = text; left = left; bad = bad }) ≡ Ok (place, m) → Last command p text left bad place
   unfolding last_line at
   last_is left settled h = last_of left settled (sees_word (codes "end") (at text left bad)) refl h

@@ -24,16 +24,24 @@ let_known : (letters : List ℕ) (names : Names) (at : ℕ) → known letters na
 unfolding known
 let_known letters names at e = by (position (is_named letters) names.variables) (position (bytes_eq letters) names.lets) refl refl e
   where
-    by : (o p : Option ℕ) → position (is_named letters) names.variables ≡ o → position (bytes_eq letters) names.lets ≡ p → known_by o p ≡ Let at → IsList names letters at
+    by : (o p : Option ℕ) → position (is_named letters) names.variables ≡ o → position (bytes_eq letters) names.lets ≡ p → known_by o p ≡ Let at →
+        IsList names letters at
     by (Some v) p a b h = cc
     by None None a b h = cc
     by None (Some n) a b h = let same : n ≡ at = cc in record { no_variable = a; first = b ∙ ap (λ (m : ℕ). let q : Option ℕ = Some m in q) same }
 
 module _ (names : Names) where
-  list_is : (i j : Input) (at : ℕ) → input.symbol i ≡ Some symbol.Word → (k : Known) → known (spelling i) names ≡ k → list_by names k i ≡ Ok (at, j) → Spelled (lets.list names at) i j
+  list_is : (i j : Input) (at : ℕ) → input.symbol i ≡ Some symbol.Word → (k : Known) → known (spelling i) names ≡ k → list_by names k i ≡ Ok (at, j) →
+      Spelled (lets.list names at) i j
   list_is i j at word (Let n) e h =
       let s = taken (Word (spelling i)) i refl (shown-symbol i symbol.Word word) in
-      moved (lets.list names) i n at (next i) j h (record { used = s.used; parts = s.parts; spells = record { letters = spelling i; named = let_known (spelling i) names n e; spelled = s.spells }; follows = s.follows })
+      moved (lets.list names) i n at (next i) j h
+      (record {
+        used = s.used;
+        parts = s.parts;
+        spells = record { letters = spelling i; named = let_known (spelling i) names n e; spelled = s.spells };
+        follows = s.follows;
+      })
   list_is i j at word (Variable n) e h = cc
   list_is i j at word Unknown e h = cc
 
@@ -67,11 +75,15 @@ module _ (names : Names) where
       by true h = cc
       by false h = cc
 
-  one_listed : (n : ℕ) (found : List Expr) → ((x : Expr) → Spells (listed_from names n (found ++ x ∷ [])) (MoreListed n (found ++ x ∷ []))) → (x : Expr) (more : Bool)
-      → Continues (IsExpression names true x ▸ optional (Sign 59) more) (cond more (listed_from names n (found ++ x ∷ [])) (pure (found ++ x ∷ []))) (MoreListed (suc n) found)
-  one_listed n found others x true = Continues-last (MoreListed (suc n) found) (MoreListed n (found ++ x ∷ [])) (listed_from names n (found ++ x ∷ [])) (others x) (λ xs ls h.
+  one_listed : (n : ℕ) (found : List Expr) → ((x : Expr) → Spells (listed_from names n (found ++ x ∷ [])) (MoreListed n (found ++ x ∷ []))) →
+      (x : Expr) (more : Bool)
+      → Continues (IsExpression names true x ▸ optional (Sign 59) more) (cond more (listed_from names n (found ++ x ∷ [])) (pure (found ++ x ∷ [])))
+      (MoreListed (suc n) found)
+  one_listed n found others x true =
+      Continues-last (MoreListed (suc n) found) (MoreListed n (found ++ x ∷ [])) (listed_from names n (found ++ x ∷ [])) (others x) (λ xs ls h.
       let small = h.second.few in
-      let again : (IsExpression names true x ▸ (one (Sign 59) ▸ IsExpression names true h.second.first ▸ each (lets.more_listed names) h.second.more)) ls =
+      let again : (IsExpression names true x ▸ (one (Sign 59) ▸ IsExpression names true h.second.first ▸ each (lets.more_listed names) h.second.more))
+      ls =
       joined_to_right_twice (replaced h h.second.spelled) in
       record {
         first = x;
@@ -82,8 +94,11 @@ module _ (names : Names) where
       })
     where
       joined_to_right_twice : {a b c d : Texts} {ls : List Lexeme} → (a ▸ b ▸ (c ▸ d)) ls → (a ▸ (b ▸ c ▸ d)) ls
-      joined_to_right_twice h = let k = joined_to_right h in record { front = k.front; back = k.back; parts = k.parts; first = k.first; second = joined_to_left k.second }
-  one_listed n found others x false = Continues-pure (MoreListed (suc n) found) (found ++ x ∷ []) (λ ls h. record { first = x; more = []; value = refl; few = omega arith; spelled = h })
+      joined_to_right_twice h = let k = joined_to_right h in
+          record { front = k.front; back = k.back; parts = k.parts; first = k.first; second = joined_to_left k.second }
+  one_listed n found others x false =
+      Continues-pure (MoreListed (suc n) found) (found ++ x ∷ [])
+      (λ ls h. record { first = x; more = []; value = refl; few = omega arith; spelled = h })
 
   Spells-listed_from : (n : ℕ) (found : List Expr) → Spells (listed_from names n found) (MoreListed n found)
   unfolding listed_from
@@ -115,8 +130,10 @@ module _ (names : Names) where
   unfolding Form
   listed_is xs ls h =
       let same = h.second.value in
-      let few = h.second.few in
-      (subst (λ (ys : List Expr). length ys ≤ 16) (sym same) few, replaced h (subst (λ (ys : List Expr). lets.listed names ys h.back) (sym same) h.second.spelled))
+      let few = h.second.few in (
+        subst (λ (ys : List Expr). length ys ≤ 16) (sym same) few,
+        replaced h (subst (λ (ys : List Expr). lets.listed names ys h.back) (sym same) h.second.spelled),
+      )
 
   after_word : (word : LetWord) → Continues (one (Word (word_of word))) (form_by names word) Form
   unfolding word_of Form Lists applied
@@ -129,10 +146,13 @@ module _ (names : Names) where
 
   begins_with : (i : Input) (word : LetWord) → let_word i ≡ Some word → sees_word (word_of word) i ≡ true
   unfolding let_word word_of
-  begins_with i word h = by (sees_word (codes "gens") i) refl (sees_word (codes "plus") i) refl (sees_word (codes "product") i) refl (sees_word (codes "apply") i) refl word h
+  begins_with i word h = by (sees_word (codes "gens") i) refl (sees_word (codes "plus") i) refl (sees_word (codes "product") i) refl
+      (sees_word (codes "apply") i) refl word h
     where
-      by : (g : Bool) → sees_word (codes "gens") i ≡ g → (p : Bool) → sees_word (codes "plus") i ≡ p → (t : Bool) → sees_word (codes "product") i ≡ t → (a : Bool) → sees_word (codes "apply") i ≡ a → (word : LetWord)
-          → ◌≡◌ {A = Option LetWord} (cond g (Some Gens) (cond p (Some Plus) (cond t (Some Product) (cond a (Some Apply) None)))) (Some word) → sees_word (word_of word) i ≡ true
+      by : (g : Bool) → sees_word (codes "gens") i ≡ g → (p : Bool) → sees_word (codes "plus") i ≡ p → (t : Bool) →
+          sees_word (codes "product") i ≡ t → (a : Bool) → sees_word (codes "apply") i ≡ a → (word : LetWord)
+          → ◌≡◌ {A = Option LetWord} (cond g (Some Gens) (cond p (Some Plus) (cond t (Some Product) (cond a (Some Apply) None)))) (Some word) →
+          sees_word (word_of word) i ≡ true
       by true eg p ep t et a ea word h = let same : Gens ≡ word = cc in subst (λ (w : LetWord). sees_word (word_of w) i ≡ true) same eg
       by false eg true ep t et a ea word h = let same : Plus ≡ word = cc in subst (λ (w : LetWord). sees_word (word_of w) i ≡ true) same ep
       by false eg false ep true et a ea word h = let same : Product ≡ word = cc in subst (λ (w : LetWord). sees_word (word_of w) i ≡ true) same et
@@ -163,7 +183,8 @@ pub Goes-let_lines : (variables : List Naming) → Goes nothing (let_lines varia
 unfolding let_lines let_lines_from
 Goes-let_lines variables =
     Goes-all (lets.let_lines variables) (let_lines_from variables 8 [])
-    (Goes-key_lines (codes "let") (λ found. definition (with_definitions variables found)) (let_lines_from variables) (λ found. refl) (λ n found. refl)
+    (Goes-key_lines (codes "let") (λ found. definition (with_definitions variables found)) (let_lines_from variables) (λ found. refl)
+    (λ n found. refl)
     (λ found. lets.let_line (with_definitions variables found)) (λ found. Goes-definition (with_definitions variables found))
     (λ n found ds ls. (length ds ≤ n) × lets.let_lines_behind variables found ds ls) (λ n found ls u. (omega arith, u))
     (λ n found d ds ls h. let few = h.second.0 in (omega (arith, few), replaced h h.second.1)) 8 [])

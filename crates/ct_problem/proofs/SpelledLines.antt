@@ -26,12 +26,14 @@ Goes-no_more key = Goes-whole _ (Goes-look (sees_word key) (λ x ls h. h)) by
     by false = Goes-pure N tt (λ ls h. h)
 
 -- the rest of the lines, past such a test
-pub Goes-past_test : {A : Type 0} (D : Texts) (L : A → Texts) (key : List ℕ) (p : Parser A) → Goes (D ▸ nothing) p L → Goes D (read.no_more key >> p) L
+pub Goes-past_test : {A : Type 0} (D : Texts) (L : A → Texts) (key : List ℕ) (p : Parser A) → Goes (D ▸ nothing) p L →
+    Goes D (read.no_more key >> p) L
 Goes-past_test D L key p rest = Goes-bind _ (Goes-no_more key) (λ _. rest)
 
 module _ (names : Names) where
   -- the end of a line, and a value that is known
-  pub Goes-ended : {A : Type 0} (D : Texts) (L : A → Texts) (x : A) → ((ls : List Lexeme) → (D ▸ one LineEnd) ls → L x ls) → Goes D (line_end >> pure x) L
+  pub Goes-ended : {A : Type 0} (D : Texts) (L : A → Texts) (x : A) → ((ls : List Lexeme) → (D ▸ one LineEnd) ls → L x ls) →
+      Goes D (line_end >> pure x) L
   Goes-ended D L x h = Goes-bind _ Goes-line_end (λ _. Goes-pure L x h)
 
   pub Goes-value : (operators : Bool) → Goes nothing (read.value names operators) (value names operators)

@@ -19,7 +19,8 @@ module _ {X : Type 0} where
   pub Goes-found : (D : Texts) (B : List X → Texts) (found : List X) → ((ls : List Lexeme) → D ls → B [] ls) → Goes D (pure found) (More B found)
   Goes-found D B found none = Goes-pure (More B found) found (λ ls d. record { more = []; value = sym (append-nil found); spelled = none ls d })
 
-  pub Goes-one : (L : Texts) (B C : List X → Texts) (found : List X) (x : X) (p : Parser (List X)) → ((xs : List X) (ls : List Lexeme) → (L ▸ C xs) ls → B (x ∷ xs) ls)
+  pub Goes-one : (L : Texts) (B C : List X → Texts) (found : List X) (x : X) (p : Parser (List X)) →
+      ((xs : List X) (ls : List Lexeme) → (L ▸ C xs) ls → B (x ∷ xs) ls)
       → Goes nothing p (More C (found ++ x ∷ [])) → Goes L p (More B found)
   Goes-one L B C found x p add others = Goes-as others (λ xs ls h. record {
     more = x ∷ h.second.more;
@@ -32,14 +33,17 @@ module _ {X : Type 0} where
 
   module _ (key : List ℕ) (line : List X → Parser X) (from : ℕ → List X → Parser (List X))
       (stops : (found : List X) → from 0 found ≡ (no_more key >> pure found))
-      (goes : (n : ℕ) (found : List X) → from (suc n) found ≡ (eat_word key >>= (λ more. cond more (line found >>= (λ x. from n (found ++ x ∷ []))) (pure found))))
+      (goes : (n : ℕ) (found : List X) →
+      from (suc n) found ≡ (eat_word key >>= (λ more. cond more (line found >>= (λ x. from n (found ++ x ∷ []))) (pure found))))
       (L : List X → X → Texts) (line_goes : (found : List X) → Goes (one (Word key)) (line found) (L found))
       (B : ℕ → List X → List X → Texts) (none : (n : ℕ) (found : List X) (ls : List Lexeme) → nothing ls → B n found [] ls)
-      (add : (n : ℕ) (found : List X) (x : X) (xs : List X) (ls : List Lexeme) → (L found x ▸ B n (found ++ x ∷ []) xs) ls → B (suc n) found (x ∷ xs) ls) where
+      (add : (n : ℕ) (found : List X) (x : X) (xs : List X) (ls : List Lexeme) → (L found x ▸ B n (found ++ x ∷ []) xs) ls →
+      B (suc n) found (x ∷ xs) ls) where
     pub Goes-key_lines : (n : ℕ) (found : List X) → Goes nothing (from n found) (More (B n found) found)
     Goes-key_lines zero found =
         subst (λ (p : Parser (List X)). Goes nothing p (More (B 0 found) found)) (sym (stops found))
-        (Goes-past_test nothing (More (B 0 found) found) key (pure found) (Goes-found (nothing ▸ nothing) (B 0 found) found (λ ls h. none 0 found ls (nothing_joined h))))
+        (Goes-past_test nothing (More (B 0 found) found) key (pure found)
+        (Goes-found (nothing ▸ nothing) (B 0 found) found (λ ls h. none 0 found ls (nothing_joined h))))
     Goes-key_lines (suc n) found =
         subst (λ (p : Parser (List X)). Goes nothing p (More (B (suc n) found) found)) (sym (goes n found))
         (Goes-begin _ (Spells-eat_word key) (by (λ x. Goes-key_lines n (found ++ x ∷ []))))

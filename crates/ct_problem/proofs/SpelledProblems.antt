@@ -26,7 +26,8 @@ module _ (names : Names) where
   unfolding used These
   Goes-used =
       Goes-then _ (Spells-list_name names) (λ at. Goes-bind _ Goes-line_end (λ _.
-      Goes-past_test (one (Word (codes "use")) ▸ lets.list names at ▸ one LineEnd) These (codes "use") (pure (Named at)) (Goes-pure These (Named at) (λ ls h. joined_nothing h))))
+      Goes-past_test (one (Word (codes "use")) ▸ lets.list names at ▸ one LineEnd) These (codes "use") (pure (Named at))
+      (Goes-pure These (Named at) (λ ls h. joined_nothing h))))
 
   listed_or : (xs : List Expr) → Goes (grammar.values names (codes "gen") xs) (listed_or_used names xs) These
   unfolding These
@@ -39,7 +40,8 @@ module _ (names : Names) where
           record { follows = r.follows; spelled = λ before d left. r.spelled before (alone before d) left }
         where
           alone : (ls : List Lexeme) → (grammar.values names (codes "gen") [] ▸ one (Word (codes "use"))) ls → one (Word (codes "use")) ls
-          alone ls h = nothing_joined {a = one (Word (codes "use"))} (record { front = h.front; back = h.back; parts = h.parts; first = h.first.1; second = h.second })
+          alone ls h = nothing_joined {a = one (Word (codes "use"))}
+              (record { front = h.front; back = h.back; parts = h.parts; first = h.first.1; second = h.second })
       by false i j g e = Goes-pure These (Listed []) (λ ls h. joined_nothing h) i j g e
   listed_or (x ∷ xs) = Goes-pure These (Listed (x ∷ xs)) (λ ls h. h)
 
@@ -55,18 +57,22 @@ High limit low n ls = (low ≤ n) × number limit n ls
 
 Spells-high : (limit low : ℕ) → Spells (high_number limit low) (High limit low)
 unfolding high_number High
-Spells-high limit low = Spells-coming (High limit low) (λ n. fault_if (nat_lt limit n) OutOfRange >> (fault_if (nat_lt n low) EmptyRange >> (skip >> pure n))) (λ n i j x c e.
+Spells-high limit low =
+    Spells-coming (High limit low) (λ n. fault_if (nat_lt limit n) OutOfRange >> (fault_if (nat_lt n low) EmptyRange >> (skip >> pure n)))
+    (λ n i j x c e.
     let t = test_failed (nat_lt limit n) OutOfRange (fault_if (nat_lt n low) EmptyRange >> (skip >> pure n)) i j x e in
     let u = test_failed (nat_lt n low) EmptyRange (skip >> pure n) i j x t.1 in
     let s = Coming-taken i n limit c (ltb-false limit n t.0) in
-    moved (High limit low) i n x (next i) j u.1 (record { used = s.used; parts = s.parts; spells = (ltb-false n low u.0, s.spells); follows = s.follows }))
+    moved (High limit low) i n x (next i) j u.1
+    (record { used = s.used; parts = s.parts; spells = (ltb-false n low u.0, s.spells); follows = s.follows }))
 
 Spells-range : (limit : ℕ) → Spells (range limit) (grammar.range limit)
 unfolding range High
 Spells-range limit =
     Spells-bind _ (grammar.range limit) _ _ (Spells-number limit OutOfRange) (λ low. Continues-bind _ (grammar.range limit) _ _ Spells-dots (λ _.
     Continues-bind _ (grammar.range limit) _ _ (Spells-high limit low) (λ high.
-    Continues-pure (grammar.range limit) (record { low = low; high = high }) (λ ls h. record { rising = h.second.0; spelled = replaced h h.second.1 }))))
+    Continues-pure (grammar.range limit) (record { low = low; high = high })
+    (λ ls h. record { rising = h.second.0; spelled = replaced h h.second.1 }))))
 
 pub Goes-range_line : (key : List ℕ) (limit : ℕ) → Goes nothing (range_line key limit) (grammar.range_line key limit)
 unfolding range_line
@@ -79,7 +85,8 @@ Goes-range_line key limit =
     by : (b : Bool) → Goes (optional (Word key) b) (cond b (range limit >>= (λ r. line_end >> (no_more key >> pure (Some r)))) (pure None)) L
     by true =
         Goes-then _ (Spells-range limit) (λ r. Goes-bind _ Goes-line_end (λ _.
-        Goes-past_test (one (Word key) ▸ grammar.range limit r ▸ one LineEnd) L key (pure (Some r)) (Goes-pure L (Some r) (λ ls h. joined_nothing h))))
+        Goes-past_test (one (Word key) ▸ grammar.range limit r ▸ one LineEnd) L key (pure (Some r))
+        (Goes-pure L (Some r) (λ ls h. joined_nothing h))))
     by false = Goes-pure L None (λ ls h. h)
 
 -- ---- the lines before the last one
@@ -110,7 +117,8 @@ Goes-body h =
     Goes-bind _ (Goes-generators names) (λ gens. Goes-bind _ (goes (den_lines_rule None names)) (λ dens.
     Goes-bind _ (Goes-value_lines names (codes "target")) (λ targets.
     Goes-bind _ (Goes-range_line (codes "order") 8) (λ orders. Goes-bind _ (Goes-range_line (codes "degree") 12) (λ degrees. Goes-pure Before
-    (record { variables = h.0; definitions = h.1; generators = gens; dens = dens; targets = targets; orders = orders; degrees = degrees }) (λ ls k. record {
+    (record { variables = h.0; definitions = h.1; generators = gens; dens = dens; targets = targets; orders = orders; degrees = degrees })
+    (λ ls k. record {
       few = k.first.first.first.first.first.few;
       spelled = on_first (λ a1. on_first (λ a2. on_first (λ a3. on_first (λ a4. on_first (λ a5 m. m.spelled))))) k;
     }))))))

@@ -31,12 +31,18 @@ module _ {A : Type 0} {D : Texts} (L : A → Texts) where
   gone : (x y : A) (i j : Input) → ◌≡◌ {A = Outcome A} (Ok (x, i)) (Ok (y, j)) → Going D (L x) i i → Going D (L y) i j
   gone x y i j e g =
       let pairs : ◌≡◌ {A = A × Input} (x, i) (y, j) = cc in
-      subst (λ (m : Input). Going D (L y) i m) (ap (λ (r : A × Input). r.1) pairs) (subst (λ (z : A). Going D (L z) i i) (ap (λ (r : A × Input). r.0) pairs) g)
+      subst (λ (m : Input). Going D (L y) i m) (ap (λ (r : A × Input). r.1) pairs)
+      (subst (λ (z : A). Going D (L z) i i) (ap (λ (r : A × Input). r.0) pairs) g)
 
   pub Goes-pure : (x : A) → ((ls : List Lexeme) → D ls → L x ls) → Goes D (pure x) L
   Goes-pure x h i j y e = gone x y i j e (record {
     follows = Follows-same i;
-    spelled = λ before d left. record { used = []; parts = refl; spells = subst (L x) (sym (append-nil before)) (h before d); follows = Follows-same i };
+    spelled = λ before d left. record {
+      used = [];
+      parts = refl;
+      spells = subst (L x) (sym (append-nil before)) (h before d);
+      follows = Follows-same i;
+    };
   })
 
   pub Goes-fault : (kind : BadKind) → Goes D (fault kind) L
@@ -52,7 +58,12 @@ module _ {A : Type 0} {D : Texts} {L : A → Texts} where
       let s = last i j x e in
       record {
         follows = s.follows;
-        spelled = λ before d left. record { used = s.used; parts = s.parts; spells = h x (before ++ s.used) (joined before s.used d s.spells); follows = s.follows };
+        spelled = λ before d left. record {
+          used = s.used;
+          parts = s.parts;
+          spells = h x (before ++ s.used) (joined before s.used d s.spells);
+          follows = s.follows;
+        };
       }
 
   -- rules that go on come last
@@ -61,7 +72,8 @@ module _ {A : Type 0} {D : Texts} {L : A → Texts} where
       let g = last i j x e in
       record {
         follows = g.follows;
-        spelled = λ before d left. let s = g.spelled [] refl left in record { used = s.used; parts = s.parts; spells = h x (before ++ s.used) (joined before s.used d s.spells); follows = s.follows };
+        spelled = λ before d left. let s = g.spelled [] refl left in
+            record { used = s.used; parts = s.parts; spells = h x (before ++ s.used) (joined before s.used d s.spells); follows = s.follows };
       }
 
   pub Goes-fault_if : (b : Bool) (kind : BadKind) (p : Parser A) → (b ≡ false → Goes D p L) → Goes D (fault_if b kind >> p) L
@@ -74,7 +86,8 @@ module _ {A : Type 0} {D : Texts} {L : A → Texts} where
 
 -- one rule after the other, where what was taken stands for the whole of what the first gives
 module _ {A B : Type 0} {D : Texts} {M : A → Texts} {L : B → Texts} where
-  pub by_whole : (f : A → Parser B) (i j : Input) (y : B) (o : Outcome A) → ((x : A) (k : Input) → o ≡ Ok (x, k) → Going D (M x) i k) → ((x : A) → Goes (M x) (f x) L)
+  pub by_whole : (f : A → Parser B) (i j : Input) (y : B) (o : Outcome A) → ((x : A) (k : Input) → o ≡ Ok (x, k) → Going D (M x) i k) →
+      ((x : A) → Goes (M x) (f x) L)
       → and_then o f ≡ Ok (y, j) → Going D (L y) i j
   by_whole f i j y (Err fault) first second e = cc
   by_whole f i j y (Ok r) first second e =
@@ -117,7 +130,12 @@ Goes-line_end i j x e = by (line_end-gives i j x e)
     by : LineEnded i j → Going nothing (one LineEnd) i j
     by (LineEnded.ended s fresh) = record {
       follows = s.follows;
-      spelled = λ before none left. record { used = s.used; parts = s.parts; spells = subst (λ (ls : List Lexeme). one LineEnd (ls ++ s.used)) (sym none) s.spells; follows = s.follows };
+      spelled = λ before none left. record {
+        used = s.used;
+        parts = s.parts;
+        spells = subst (λ (ls : List Lexeme). one LineEnd (ls ++ s.used)) (sym none) s.spells;
+        follows = s.follows;
+      };
     }
     by (LineEnded.at_end same none) = record {
       follows = subst (λ (k : Input). Follows i k) same (Follows-same i);
@@ -129,5 +147,11 @@ Goes-fresh_line i j x e =
     let same = (fresh_line-settles i j x e).0 in
     record {
       follows = subst (λ (k : Input). Follows i k) same (Follows-same i);
-      spelled = λ before none left. subst (λ (k : Input). Spelled (λ used. nothing (before ++ used)) i k) same (record { used = []; parts = refl; spells = subst (λ (ls : List Lexeme). nothing ls) (sym (append-nil before)) none; follows = Follows-same i });
+      spelled = λ before none left. subst (λ (k : Input). Spelled (λ used. nothing (before ++ used)) i k) same
+          (record {
+            used = [];
+            parts = refl;
+            spells = subst (λ (ls : List Lexeme). nothing ls) (sym (append-nil before)) none;
+            follows = Follows-same i;
+          });
     }

@@ -30,7 +30,8 @@ line_end_of : (i j : Input) (x : Unit {0}) → (o : Option Symbol) → input.sym
 line_end_of i j x (Some symbol.LineEnd) e h =
     let fresh = fresh_line-settles (next i) j x h in
     LineEnded.ended
-    (subst (λ (k : Input). Spelled (one LineEnd) i k) fresh.0 (taken_so LineEnd i (shown-symbol i symbol.LineEnd e) (λ s. record { whole = λ _. fresh.1 })))
+    (subst (λ (k : Input). Spelled (one LineEnd) i k) fresh.0
+    (taken_so LineEnd i (shown-symbol i symbol.LineEnd e) (λ s. record { whole = λ _. fresh.1 })))
     (subst (λ (k : Input). has_line_end k.left ≡ false → k.bad ≡ None) fresh.0 fresh.1)
 line_end_of i j x (Some symbol.Word) e h = cc
 line_end_of i j x (Some symbol.Number) e h = cc
@@ -95,7 +96,8 @@ pub record Coming (i : Input) (n : ℕ) : Type 0 where
 -- the number that comes next is taken
 pub Coming-taken : (i : Input) (n limit : ℕ) → Coming i n → n ≤ limit → Spelled (number limit n) i (next i)
 Coming-taken i n limit c within =
-    Spelled-as (one (Number n)) (number limit n) i (next i) (λ ls u. (within, u)) (past_digits i n (record { stays = refl; is_number = c.is_number; value = c.value }) c.small)
+    Spelled-as (one (Number n)) (number limit n) i (next i) (λ ls u. (within, u))
+    (past_digits i n (record { stays = refl; is_number = c.is_number; value = c.value }) c.small)
 
 -- what the first of two rules read, and what the second did then
 pub record First {A B : Type 0} (p : Parser A) (f : A → Parser B) (i j : Input) (y : B) : Type 0 where
@@ -112,7 +114,8 @@ first_read {A} p f i j y e = by (p i) refl e
     by (Ok r) read e = record { value = r.0; left = r.1; first = read; second = e }
 
 -- a test that failed
-pub test_failed : {A : Type 0} (b : Bool) (kind : BadKind) (p : Parser A) (i j : Input) (x : A) → (fault_if b kind >> p) i ≡ Ok (x, j) → (b ≡ false) × (p i ≡ Ok (x, j))
+pub test_failed : {A : Type 0} (b : Bool) (kind : BadKind) (p : Parser A) (i j : Input) (x : A) → (fault_if b kind >> p) i ≡ Ok (x, j) →
+    (b ≡ false) × (p i ≡ Ok (x, j))
 test_failed true kind p i j x e = cc
 test_failed false kind p i j x e = (refl, e)
 
@@ -124,10 +127,13 @@ coming-gives i k n e =
     let t = test_failed (nat_lt largest_norm r.value) NumberTooLarge (pure r.value) r.left k n r.second in
     let pairs : ◌≡◌ {A = ℕ × Input} (r.value, r.left) (n, k) = cc (t.1) in
     let same : r.value ≡ n = ap (λ (q : ℕ × Input). q.0) pairs in
-    let small : r.value ≤ largest_norm = ltb-false largest_norm r.value t.0 in
-    (d.stays ∙ ap (λ (q : ℕ × Input). q.1) pairs, record { is_number = d.is_number; value = d.value ∙ same; small = subst (λ (m : ℕ). m ≤ largest_norm) same small })
+    let small : r.value ≤ largest_norm = ltb-false largest_norm r.value t.0 in (
+      d.stays ∙ ap (λ (q : ℕ × Input). q.1) pairs,
+      record { is_number = d.is_number; value = d.value ∙ same; small = subst (λ (m : ℕ). m ≤ largest_norm) same small },
+    )
 
-pub Spells-coming : {A : Type 0} (L : A → Texts) (f : ℕ → Parser A) → ((n : ℕ) (i j : Input) (x : A) → Coming i n → f n i ≡ Ok (x, j) → Spelled (L x) i j) → Spells (coming_number >>= f) L
+pub Spells-coming : {A : Type 0} (L : A → Texts) (f : ℕ → Parser A) →
+    ((n : ℕ) (i j : Input) (x : A) → Coming i n → f n i ≡ Ok (x, j) → Spelled (L x) i j) → Spells (coming_number >>= f) L
 Spells-coming L f rest i j x e =
     let r = first_read coming_number f i j x e in
     let c = coming-gives i r.left r.value r.first in
@@ -144,9 +150,11 @@ unfolding digits.exactly
 Spells-exactly n small i j x e =
     let r = first_read digits.digits (λ m. cond (m == n) skip syntax) i j x e in
     let d = digits-gives i r.left r.value r.first in
-    by r.value (r.value == n) refl (subst (λ (k : Input). Digits i k r.value) (sym d.stays) d) (subst (λ (k : Input). cond (r.value == n) skip syntax k ≡ Ok (x, j)) (sym d.stays) r.second)
+    by r.value (r.value == n) refl (subst (λ (k : Input). Digits i k r.value) (sym d.stays) d)
+    (subst (λ (k : Input). cond (r.value == n) skip syntax k ≡ Ok (x, j)) (sym d.stays) r.second)
   where
-    by : (m : ℕ) (same : Bool) → m == n ≡ same → Digits i i m → cond {A = Parser (Unit {0})} same skip syntax i ≡ Ok (x, j) → Spelled (one (Number n)) i j
+    by : (m : ℕ) (same : Bool) → m == n ≡ same → Digits i i m → cond {A = Parser (Unit {0})} same skip syntax i ≡ Ok (x, j) →
+        Spelled (one (Number n)) i j
     by m true e d h =
         let equal : m ≡ n = first_of (search (rules, tests), grind (arith, tests)) in
         moved (λ (_ : Unit {0}). one (Number n)) i tt x (next i) j h (past_digits i n (subst (λ (k : ℕ). Digits i i k) equal d) small)

@@ -32,7 +32,9 @@ module _ (names : Names) (operators : Bool) where
         Spells-bind _ Factor _ _ (Spells-atom names operators inner InParentheses opens) (λ base.
         Continues-bind _ Factor _ _ (Spells-eat 94) (λ is_power. by base is_power))
       where
-        by : (base : Expr) (is_power : Bool) → Continues (Atom base ▸ optional (Sign 94) is_power) (cond is_power (digits.number largest_degree ExponentTooLarge >>= (λ n. pure (e.Power base n))) (pure base)) Factor
+        by : (base : Expr) (is_power : Bool) →
+            Continues (Atom base ▸ optional (Sign 94) is_power)
+            (cond is_power (digits.number largest_degree ExponentTooLarge >>= (λ n. pure (e.Power base n))) (pure base)) Factor
         by base true =
             Continues-bind _ Factor _ _ (Spells-number largest_degree ExponentTooLarge)
             (λ n. Continues-pure Factor (e.Power base n) (λ ls h. IsFactor.power base n refl h))
@@ -53,7 +55,8 @@ module _ (names : Names) (operators : Bool) where
         Continues-bind _ (Product found) _ _ (Spells-eat 42) (λ more. by x (Spells-factors n (found ++ x ∷ [])) more))
       where
         by : (x : Expr) → Spells (factors_from names operators inner n (found ++ x ∷ [])) (Product (found ++ x ∷ [])) → (more : Bool)
-            → Continues (Factor x ▸ optional (Sign 42) more) (cond more (factors_from names operators inner n (found ++ x ∷ [])) (pure (product_of (found ++ x ∷ [])))) (Product found)
+            → Continues (Factor x ▸ optional (Sign 42) more)
+            (cond more (factors_from names operators inner n (found ++ x ∷ [])) (pure (product_of (found ++ x ∷ [])))) (Product found)
         by x others true =
             Continues-last (Product found) (Product (found ++ x ∷ [])) (factors_from names operators inner n (found ++ x ∷ [])) others (λ y ls h.
             let rest = h.second in
@@ -61,13 +64,20 @@ module _ (names : Names) (operators : Bool) where
               first = x;
               more = rest.first ∷ rest.more;
               value = rest.value ∙ ap product_of (append_assoc found (x ∷ []) (rest.first ∷ rest.more));
-              spelled = on_second (λ xs r. joined_to_left r) (joined_to_right (record { front = h.front; back = h.back; parts = h.parts; first = h.first; second = rest.spelled }));
+              spelled = on_second (λ xs r. joined_to_left r)
+                  (joined_to_right (record { front = h.front; back = h.back; parts = h.parts; first = h.first; second = rest.spelled }));
             })
-        by x others false = Continues-pure (Product found) (product_of (found ++ x ∷ [])) (λ ls h. record { first = x; more = []; value = refl; spelled = h })
+        by x others false = Continues-pure (Product found) (product_of (found ++ x ∷ []))
+            (λ ls h. record { first = x; more = []; value = refl; spelled = h })
 
     pub Spells-term : Spells (term names operators inner) ATerm
     unfolding term
     Spells-term i j x h =
         let s = Spells-factors (suc (length i.left)) [] i j x h in
         let p = s.spells in
-        record { used = s.used; parts = s.parts; spells = record { first = p.first; more = p.more; value = p.value; spelled = p.spelled }; follows = s.follows }
+        record {
+          used = s.used;
+          parts = s.parts;
+          spells = record { first = p.first; more = p.more; value = p.value; spelled = p.spelled };
+          follows = s.follows;
+        }

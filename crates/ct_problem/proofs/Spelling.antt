@@ -55,17 +55,20 @@ module _ {A : Type 0} (L : A → Texts) where
   Continues-fault D kind i j y before d e = cc
 
   -- a rule that goes on after what was taken before
-  pub Continues-last : {D : Texts} (M : A → Texts) (p : Parser A) → Spells p M → ((x : A) (ls : List Lexeme) → (D ▸ M x) ls → L x ls) → Continues D p L
+  pub Continues-last : {D : Texts} (M : A → Texts) (p : Parser A) → Spells p M → ((x : A) (ls : List Lexeme) → (D ▸ M x) ls → L x ls) →
+      Continues D p L
   Continues-last M p last h i j x before d e =
       let s = last i j x e in
       record { used = s.used; parts = s.parts; spells = h x (before ++ s.used) (joined before s.used d s.spells); follows = s.follows }
 
 pub Continues-pure : {A : Type 0} (L : A → Texts) {D : Texts} (x : A) → ((ls : List Lexeme) → D ls → L x ls) → Continues D (pure x) L
 Continues-pure L x h i j y before d e =
-    moved (λ z used. L z (before ++ used)) i x y i j e (record { used = []; parts = refl; spells = subst (L x) (sym (append-nil before)) (h before d); follows = Follows-same i })
+    moved (λ z used. L z (before ++ used)) i x y i j e
+    (record { used = []; parts = refl; spells = subst (L x) (sym (append-nil before)) (h before d); follows = Follows-same i })
 
 module _ {A B : Type 0} (M : A → Texts) (L : B → Texts) where
-  by_first : (f : A → Parser B) (i j : Input) (y : B) → (o : Outcome A) → ((x : A) (k : Input) → o ≡ Ok (x, k) → Spelled (M x) i k) → ((x : A) → Continues (M x) (f x) L)
+  by_first : (f : A → Parser B) (i j : Input) (y : B) → (o : Outcome A) → ((x : A) (k : Input) → o ≡ Ok (x, k) → Spelled (M x) i k) →
+      ((x : A) → Continues (M x) (f x) L)
       → and_then o f ≡ Ok (y, j) → Spelled (L y) i j
   by_first f i j y (Err fault) first second e = cc
   by_first f i j y (Ok r) first second e = let s = first r.0 r.1 refl in Spelled-then (M r.0) (L y) i r.1 j s (second r.0 r.1 j y s.used s.spells e)
@@ -74,7 +77,8 @@ module _ {A B : Type 0} (M : A → Texts) (L : B → Texts) where
   Spells-bind p f first second i j y e = by_first f i j y (p i) (λ x k h. first i k x h) second e
 
 -- the same after what was taken before
-pub Continues-bind : {A B : Type 0} (M : A → Texts) (L : B → Texts) {D : Texts} (p : Parser A) (f : A → Parser B) → Spells p M → ((x : A) → Continues (D ▸ M x) (f x) L) → Continues D (p >>= f) L
+pub Continues-bind : {A B : Type 0} (M : A → Texts) (L : B → Texts) {D : Texts} (p : Parser A) (f : A → Parser B) → Spells p M →
+    ((x : A) → Continues (D ▸ M x) (f x) L) → Continues D (p >>= f) L
 Continues-bind M L p f first second i j y before d e =
     Spells-bind M (λ z used. L z (before ++ used)) p f first (λ x k m z taken t h.
     let s = second x k m z (before ++ taken) (joined before taken d t) h in
@@ -91,13 +95,15 @@ pub taken : (l : Lexeme) (i : Input) → ends_line l ≡ false → shown i ≡ l
 taken l i plain e = taken_so l i e (passed i l (after_first (shown i)) e plain)
 
 -- what goes on after a lexeme that was taken
-pub after_taken : (l : Lexeme) (L : Texts) (i j : Input) → ends_line l ≡ false → shown i ≡ l ∷ after_first (shown i) → Spelled (λ used. L (l ∷ used)) (next i) j → Spelled L i j
+pub after_taken : (l : Lexeme) (L : Texts) (i j : Input) → ends_line l ≡ false → shown i ≡ l ∷ after_first (shown i) →
+    Spelled (λ used. L (l ∷ used)) (next i) j → Spelled L i j
 unfolding taken taken_so
 after_taken l L i j plain e s = Spelled-then (one l) L i (next i) j (taken l i plain e) s
 
 shows_sign-gives : (s : ℕ) (ls : List Lexeme) → shows_sign s ls ≡ true → ls ≡ Sign s ∷ after_first ls
 shows_sign-gives s [] h = absurd (false≢true h)
-shows_sign-gives s (Sign found ∷ ls) h = let same : found ≡ s = first_of (search (rules, tests), grind (arith, tests)) in ap (λ (n : ℕ). Sign n ∷ ls) same
+shows_sign-gives s (Sign found ∷ ls) h = let same : found ≡ s = first_of (search (rules, tests), grind (arith, tests)) in
+    ap (λ (n : ℕ). Sign n ∷ ls) same
 shows_sign-gives s (Word w ∷ ls) h = absurd (false≢true h)
 shows_sign-gives s (Number n ∷ ls) h = absurd (false≢true h)
 shows_sign-gives s (Dots ∷ ls) h = absurd (false≢true h)
@@ -111,17 +117,21 @@ shows_word-gives w (Number n ∷ ls) h = absurd (false≢true h)
 shows_word-gives w (Dots ∷ ls) h = absurd (false≢true h)
 shows_word-gives w (LineEnd ∷ ls) h = absurd (false≢true h)
 
-past_shown : (l : Lexeme) (found : Bool) (i : Input) → ends_line l ≡ false → (found ≡ true → shown i ≡ l ∷ after_first (shown i)) → Spelled (optional l found) i (past found i)
+past_shown : (l : Lexeme) (found : Bool) (i : Input) → ends_line l ≡ false → (found ≡ true → shown i ≡ l ∷ after_first (shown i)) →
+    Spelled (optional l found) i (past found i)
 past_shown l true i plain h = taken l i plain (h refl)
 past_shown l false i plain h = record { used = []; parts = refl; spells = refl; follows = Follows-same i }
 
 pub Spells-eat : (s : ℕ) → Spells (eat s) (optional (Sign s))
 unfolding eat
-Spells-eat s i j b e = moved (optional (Sign s)) i (sees s i) b (past (sees s i) i) j e (past_shown (Sign s) (sees s i) i refl (λ h. shows_sign-gives s (shown i) (sym (sees-shown s i) ∙ h)))
+Spells-eat s i j b e =
+    moved (optional (Sign s)) i (sees s i) b (past (sees s i) i) j e
+    (past_shown (Sign s) (sees s i) i refl (λ h. shows_sign-gives s (shown i) (sym (sees-shown s i) ∙ h)))
 
 pub Spells-eat_word : (w : List ℕ) → Spells (eat_word w) (optional (Word w))
 unfolding eat_word
-Spells-eat_word w i j b e = moved (optional (Word w)) i (sees_word w i) b (past (sees_word w i) i) j e (past_shown (Word w) (sees_word w i) i refl (λ h. shows_word-gives w (shown i) (sym (sees_word-shown w i) ∙ h)))
+Spells-eat_word w i j b e = moved (optional (Word w)) i (sees_word w i) b (past (sees_word w i) i) j e
+    (past_shown (Word w) (sees_word w i) i refl (λ h. shows_word-gives w (shown i) (sym (sees_word-shown w i) ∙ h)))
 
 required_is : (l : Lexeme) (found : Bool) → Continues (optional l found) (required found) (λ _. one l)
 required_is l true = Continues-pure (λ _. one l) tt (λ ls h. h)

@@ -8,7 +8,8 @@ lengths_from : (k : ℕ) (ns : List Naming) → length (summed_from k ns) ≡ le
 lengths_from k [] = refl
 lengths_from k (n ∷ ns) = by n.role (lengths_from (k + 1) ns)
   where
-    by : (r : Role) → length (summed_from (k + 1) ns) ≡ length (summed_texts ns) → length (with_summed r (name_with k) (summed_from (k + 1) ns)) ≡ length (with_text r n.text (summed_texts ns))
+    by : (r : Role) → length (summed_from (k + 1) ns) ≡ length (summed_texts ns) →
+        length (with_summed r (name_with k) (summed_from (k + 1) ns)) ≡ length (with_text r n.text (summed_texts ns))
     by role.Free rest = rest
     by role.Summed rest = ap suc rest
     by role.Param rest = rest
@@ -35,7 +36,8 @@ module _ (ns : List Naming) (few : length ns ≤ 6) where
   acts_from k [] e each = tt
   acts_from k (n ∷ rest) e each = by n.role refl (acts_from (k + 1) rest (ap (drop 1) e ∙ drop-drop 1 k ns) each.1)
     where
-      by : (r : Role) → n.role ≡ r → EachName (λ j. actions_of ns j ≢ Still) (summed_from (k + 1) rest) → EachName (λ j. actions_of ns j ≢ Still) (with_summed r (name_with k) (summed_from (k + 1) rest))
+      by : (r : Role) → n.role ≡ r → EachName (λ j. actions_of ns j ≢ Still) (summed_from (k + 1) rest) →
+          EachName (λ j. actions_of ns j ≢ Still) (with_summed r (name_with k) (summed_from (k + 1) rest))
       by role.Free is more = more
       by role.Summed is more = ((λ still. moves n each.0 is (sym (action_there k n rest e) ∙ still)), more)
       by role.Param is more = more

@@ -24,8 +24,10 @@ module _ (total : List Name) (ns : List Naming) (at : ℕ) where
     summed_name here summed so_far =
         let rest = summed_from (at + 1) (drop (at + 1) ns) in
         let there : summed_from at (drop at ns) ≡ name_with at ∷ rest =
-        ap (summed_from at) (name_there n here) ∙ with_name n.role (name_with at) rest ∙ ap (λ (b : Bool). cond b (name_with at ∷ rest) rest) summed in
-        ap (λ (names : List Name). names ++ rest) (map-append name_with found (at ∷ [])) ∙ append_assoc (map name_with found) (name_with at ∷ []) rest ∙ ap (λ (names : List Name). map name_with found ++ names) (sym there) ∙ so_far
+        ap (summed_from at) (name_there n here) ∙ with_name n.role (name_with at) rest
+        ∙ ap (λ (b : Bool). cond b (name_with at ∷ rest) rest) summed in
+        ap (λ (names : List Name). names ++ rest) (map-append name_with found (at ∷ [])) ∙ append_assoc (map name_with found) (name_with at ∷ []) rest
+        ∙ ap (λ (names : List Name). map name_with found ++ names) (sym there) ∙ so_far
 
     pub other_name : slice_get ns at ≡ Some n → is_summed n.role ≡ false → map name_with found ++ summed_from at (drop at ns) ≡ total
         → map name_with found ++ summed_from (at + 1) (drop (at + 1) ns) ≡ total

@@ -18,11 +18,13 @@ module _ (bad : Option ℕ) where
   -- ---- the first line, the names and the `let` lines
 
   Takes-head : (variables : List Naming) (definitions : List Definition) → AreFew variables
-      → Takes bad head (variables, definitions) (grammar.header (codes "problem") ▸ grammar.name_lines [] variables ▸ lets.let_lines variables definitions) (AfterLines bad 2)
+      → Takes bad head (variables, definitions) (grammar.header (codes "problem") ▸ grammar.name_lines [] variables ▸
+      lets.let_lines variables definitions) (AfterLines bad 2)
   unfolding head
   Takes-head variables definitions few =
       Takes-to_right bad
-      (Takes-as bad (nothing ▸ (Header ▸ (Lines ▸ Lets))) (Header ▸ (Lines ▸ Lets)) (AfterLines bad 2) (AfterLines bad 2) head h (λ ls m. record { front = []; back = ls; parts = refl; first = refl; second = m }) (λ rest a. a)
+      (Takes-as bad (nothing ▸ (Header ▸ (Lines ▸ Lets))) (Header ▸ (Lines ▸ Lets)) (AfterLines bad 2) (AfterLines bad 2) head h
+      (λ ls m. record { front = []; back = ls; parts = refl; first = refl; second = m }) (λ rest a. a)
       (Takes-bind bad _ (Takes-fresh_line bad) (Takes-bind bad _ (Takes-header bad (codes "problem"))
       (Takes-bind bad _ (Takes-declarations bad variables few) (Takes-last bad _ (Takes-let_lines bad variables definitions) (λ k. refl))
       (leads_lets bad variables definitions))
@@ -66,10 +68,12 @@ module _ (bad : Option ℕ) where
     leads_degrees = leads_range bad starts.Degree 8 12 (omega arith) (omega arith) 7 p.degrees (omega arith) (omega arith)
 
     leads_orders : Leads bad 6 8 (Orders ▸ Degrees)
-    leads_orders = leads_join bad 6 7 8 Orders Degrees (leads_range bad starts.Order 7 8 (omega arith) (omega arith) 6 p.orders (omega arith) (omega arith)) leads_degrees
+    leads_orders = leads_join bad 6 7 8 Orders Degrees
+        (leads_range bad starts.Order 7 8 (omega arith) (omega arith) 6 p.orders (omega arith) (omega arith)) leads_degrees
 
     leads_targets : Leads bad 5 8 (Targets ▸ (Orders ▸ Degrees))
-    leads_targets = leads_join bad 5 6 8 Targets (Orders ▸ Degrees) (λ back rest u a. leads_values bad names starts.Target 5 6 (omega arith) (omega arith) p.targets back rest u.1 a) leads_orders
+    leads_targets = leads_join bad 5 6 8 Targets (Orders ▸ Degrees)
+        (λ back rest u a. leads_values bad names starts.Target 5 6 (omega arith) (omega arith) p.targets back rest u.1 a) leads_orders
 
     leads_behind_generators : Leads bad 4 8 (Denominators ▸ (Targets ▸ (Orders ▸ Degrees)))
     leads_behind_generators = leads_join bad 4 5 8 Denominators (Targets ▸ (Orders ▸ Degrees)) (leads_dens bad names p.dens) leads_targets
@@ -89,7 +93,8 @@ module _ (bad : Option ℕ) where
     Takes-all_lines few =
         Takes-to_right bad (Takes-to_right bad (Takes-to_right bad (Takes-to_right bad
         (Takes-bind bad _ (Takes-head p.variables p.definitions few) Takes-body
-        (leads_join bad 2 4 8 Generators (Denominators ▸ (Targets ▸ (Orders ▸ Degrees))) (leads_generators bad names p.generators) leads_behind_generators)))))
+        (leads_join bad 2 4 8 Generators (Denominators ▸ (Targets ▸ (Orders ▸ Degrees)))
+        (leads_generators bad names p.generators) leads_behind_generators)))))
       where
         all : Parser Reading
         all = head >>= (λ h. body h.0 h.1)

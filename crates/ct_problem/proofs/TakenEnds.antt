@@ -26,7 +26,8 @@ module _ (text : List ℕ) (x : ℕ) where
   nothing_read [] (Some b) h = cc
   nothing_read (t ∷ ts) bad h = cc
 
-  behind_read : (command : Command) (left : List Token) (bad : Option ℕ) → MayFollow command left bad → Read (behind_end command >> pure x) (at text left bad) x
+  behind_read : (command : Command) (left : List Token) (bad : Option ℕ) → MayFollow command left bad →
+      Read (behind_end command >> pure x) (at text left bad) x
   unfolding at
   behind_read Check left bad h = record { left = at text left bad; reads = refl }
   behind_read Telescope left bad h = nothing_read left bad h
@@ -54,7 +55,8 @@ module _ (command : Command) (text : List ℕ) (bad : Option ℕ) (place : ℕ) 
   abbrev after_end : ℕ → Parser ℕ
   after_end x = behind_end command >> pure x
 
-  ending_read : (end rest : List Token) → IsEnd text end rest bad place → MayFollow command rest bad → Read (ending >>= after_end) (at text (end ++ rest) bad) place
+  ending_read : (end rest : List Token) → IsEnd text end rest bad place → MayFollow command rest bad →
+      Read (ending >>= after_end) (at text (end ++ rest) bad) place
   unfolding ending at
   ending_read [] (t ∷ ts) ends behind = cc
   ending_read [] [] ends behind =
@@ -63,7 +65,11 @@ module _ (command : Command) (text : List ℕ) (bad : Option ℕ) (place : ℕ) 
   ending_read (t ∷ u ∷ us) rest ends behind = cc
   ending_read (t ∷ []) rest ends behind =
       let r = behind_read text t.to command rest bad behind in
-      record { left = r.left; reads = ap (λ (s : Symbol). and_then (ending_by (Some s) (at text (t ∷ rest) bad)) after_end) (line_end_is text t ends.0) ∙ rw ends.1 r.reads }
+      record {
+        left = r.left;
+        reads = ap (λ (s : Symbol). and_then (ending_by (Some s) (at text (t ∷ rest) bad)) after_end)
+            (line_end_is text t ends.0) ∙ rw ends.1 r.reads;
+      }
 
 -- ---- the last line
 
@@ -78,7 +84,8 @@ module _ (command : Command) (p : Reading) (text : List ℕ) (left : List Token)
   unfolding last_line lacks at
   end_taken l =
       let i = at text left bad in
-      let sees : sees_word (codes "end") i ≡ true = sees_word-shown (codes "end") i ∙ ap (λ (ts : List Token). shows_word (codes "end") (lexemes text ts)) l.parts ∙ word l.word (l.end ++ l.rest) l.is_word in
+      let sees : sees_word (codes "end") i ≡ true = sees_word-shown (codes "end") i
+      ∙ ap (λ (ts : List Token). shows_word (codes "end") (lexemes text ts)) l.parts ∙ word l.word (l.end ++ l.rest) l.is_word in
       let r = ending_read command text bad place l.end l.rest l.ends l.behind in
       record {
         left = r.left;
@@ -90,4 +97,5 @@ module _ (command : Command) (p : Reading) (text : List ℕ) (left : List Token)
       }
     where
       word : (t : Token) (ts : List Token) → lexemes text (t ∷ []) ≡ Word (codes "end") ∷ [] → shows_word (codes "end") (lexemes text (t ∷ ts)) ≡ true
-      word t ts e = let first : lexeme_of t.symbol (slice t.from t.to text) ≡ Word (codes "end") = cc in ap (λ (l : Lexeme). shows_word (codes "end") (l ∷ lexemes text ts)) first ∙ same_word (codes "end")
+      word t ts e = let first : lexeme_of t.symbol (slice t.from t.to text) ≡ Word (codes "end") = cc in
+          ap (λ (l : Lexeme). shows_word (codes "end") (l ∷ lexemes text ts)) first ∙ same_word (codes "end")

@@ -17,7 +17,9 @@ module _ (bad : Option ℕ) where
 
   -- the end of a line ends a sum
   line_ends_sum : (back rest : List Lexeme) → one LineEnd back → IsFresh bad rest → AfterSum (back ++ rest)
-  line_ends_sum back rest u after = subst (λ (ls : List Lexeme). AfterSum (ls ++ rest)) (sym u) (record { no_divisor = refl; no_power = refl; no_factor = refl; no_plus = refl; no_minus = refl })
+  line_ends_sum back rest u after =
+      subst (λ (ls : List Lexeme). AfterSum (ls ++ rest)) (sym u)
+      (record { no_divisor = refl; no_power = refl; no_factor = refl; no_plus = refl; no_minus = refl })
 
   module _ (names : Names) where
     pub Takes-value_line : (operators : Bool) (x : Expr) → Takes bad (read.value names operators) x (value names operators x) (IsFresh bad)
@@ -25,11 +27,13 @@ module _ (bad : Option ℕ) where
     Takes-value_line operators x =
         Takes-bind bad _ (Takes-expression bad names operators x) (Takes-last bad _ (Takes-line_end bad) (λ k. refl)) line_ends_sum
 
-    pub Takes-keyed : (key : List ℕ) (operators : Bool) (x : Expr) → Takes bad (rules.keyed names key operators) x (keyed names key operators x) (IsFresh bad)
+    pub Takes-keyed : (key : List ℕ) (operators : Bool) (x : Expr) →
+        Takes bad (rules.keyed names key operators) x (keyed names key operators x) (IsFresh bad)
     unfolding rules.keyed
     Takes-keyed key operators x = Takes-next bad (Takes-expect_word bad key) (Takes-value_line operators x)
 
-    pub Takes-part : (key text : List ℕ) (operators : Bool) (x : Expr) → Takes bad (read.part names key text operators) x (part names key operators text x) (IsFresh bad)
+    pub Takes-part : (key text : List ℕ) (operators : Bool) (x : Expr) →
+        Takes bad (read.part names key text operators) x (part names key operators text x) (IsFresh bad)
     unfolding read.part
     Takes-part key text operators x =
         Takes-to_right bad (Takes-to_right bad (Takes-next bad (Takes-expect_word bad key) (Takes-next bad (Takes-expect_word bad text)

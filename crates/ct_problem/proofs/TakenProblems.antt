@@ -42,10 +42,12 @@ line_end_fresh : (bad : Option ℕ) (ls : List Lexeme) → IsFresh bad (LineEnd 
 line_end_fresh None ls = tt
 line_end_fresh (Some at) ls = refl
 
-end_fresh : (bytes : List ℕ) (end rest : List Token) (bad : Option ℕ) (at : ℕ) → IsEnd bytes end rest bad at → IsFresh bad (lexemes bytes (end ++ rest))
+end_fresh : (bytes : List ℕ) (end rest : List Token) (bad : Option ℕ) (at : ℕ) → IsEnd bytes end rest bad at →
+    IsFresh bad (lexemes bytes (end ++ rest))
 end_fresh bytes [] rest bad at ends = subst (λ (b : Option ℕ). IsFresh b (lexemes bytes rest)) (sym ends.1) tt
 end_fresh bytes (t ∷ ts) rest bad at ends =
-    subst (IsFresh bad) (sym (lexemes-append bytes (t ∷ ts) rest ∙ ap (λ ls. ls ++ lexemes bytes rest) ends.0)) (line_end_fresh bad (lexemes bytes rest))
+    subst (IsFresh bad) (sym (lexemes-append bytes (t ∷ ts) rest ∙ ap (λ ls. ls ++ lexemes bytes rest) ends.0))
+    (line_end_fresh bad (lexemes bytes rest))
 
 -- ---- the whole
 
@@ -73,13 +75,15 @@ module _ (command : Command) (bytes : List ℕ) where
 
     split : shown start ≡ front ++ after
     unfolding start behind after
-    split = ap (lexemes bytes) s.tokens ∙ lexemes-append bytes s.lines behind ∙ ap (λ ls. ls ++ lexemes bytes behind) says ∙ append_assoc front (Word (codes "end") ∷ []) (lexemes bytes behind)
+    split = ap (lexemes bytes) s.tokens ∙ lexemes-append bytes s.lines behind ∙ ap (λ ls. ls ++ lexemes bytes behind) says
+        ∙ append_assoc front (Word (codes "end") ∷ []) (lexemes bytes behind)
 
     may_follow : AfterLines (scan_of bytes 0).bad 8 after
     unfolding after behind
     may_follow = record {
       from = record { key = End; low = omega arith; back = lexemes bytes behind; parts = refl };
-      fresh = fresh_before (scan_of bytes 0).bad (Word (codes "end") ∷ []) (lexemes bytes behind) (end_fresh bytes s.end s.rest (scan_of bytes 0).bad at s.ends);
+      fresh = fresh_before (scan_of bytes 0).bad (Word (codes "end") ∷ []) (lexemes bytes behind)
+          (end_fresh bytes s.end s.rest (scan_of bytes 0).bad at s.ends);
     }
 
     lines_taken : Taken (head >>= (λ names. body names.0 names.1)) start p after
@@ -91,14 +95,16 @@ module _ (command : Command) (bytes : List ℕ) where
     last_left t =
         let w = last_word bytes s.lines (codes "end") front says in
         let shows = ap length t.shows in
-        let size : length t.left.left ≡ length (w.word ∷ behind) = omega (arith, shows, length-shown t.left, length-shown (record { text = bytes; left = behind; bad = None })) in
+        let size : length t.left.left ≡ length (w.word ∷ behind) =
+        omega (arith, shows, length-shown t.left, length-shown (record { text = bytes; left = behind; bad = None })) in
         record {
           needs = s.needs;
           word = w.word;
           is_word = w.is_word;
           end = s.end;
           rest = s.rest;
-          parts = same_end t.follows.front t.left.left w.before (w.word ∷ behind) (sym t.follows.parts ∙ s.tokens ∙ ap (λ ts. ts ++ behind) w.parts ∙ append_assoc w.before (w.word ∷ []) behind) size;
+          parts = same_end t.follows.front t.left.left w.before (w.word ∷ behind) (sym t.follows.parts ∙ s.tokens ∙ ap (λ ts. ts ++ behind) w.parts
+              ∙ append_assoc w.before (w.word ∷ []) behind) size;
           ends = s.ends;
           behind = s.behind;
         }
@@ -108,7 +114,9 @@ module _ (command : Command) (bytes : List ℕ) where
     problem_read =
         let t = lines_taken in
         let r = end_taken command p bytes t.left.left (scan_of bytes 0).bad at (last_left t) in
-        let here : t.left ≡ record { text = bytes; left = t.left.left; bad = (scan_of bytes 0).bad } = ap₂ (λ (text : List ℕ) (bad : Option ℕ). record { text = text; left = t.left.left; bad = bad }) t.follows.same_text t.follows.same_bad in
+        let here : t.left ≡ record { text = bytes; left = t.left.left; bad = (scan_of bytes 0).bad } =
+        ap₂ (λ (text : List ℕ) (bad : Option ℕ). record { text = text; left = t.left.left; bad = bad }) t.follows.same_text t.follows.same_bad
+        in
         let f : Reading → Parser (Reading × ℕ) = λ q. last_line command q >>= (λ end. pure (q, end)) in
         ap value_of (
         then_then (head start) (λ (names : List Naming × List Definition). body names.0 names.1) f

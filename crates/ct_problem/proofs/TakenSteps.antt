@@ -61,7 +61,8 @@ module _ (bad : Option ℕ) where
       let here_shown : shown i ≡ rest = e ∙ ap (λ ls. ls ++ rest) u in
       record {
         left = i;
-        reads = ap (λ (b : Bool). fresh_by b i.bad i) (has_line_end-shown i ∙ ap has_end here_shown) ∙ ap (λ (o : Option ℕ). fresh_by (has_end rest) o i) here ∙ fresh_is bad rest i after;
+        reads = ap (λ (b : Bool). fresh_by b i.bad i) (has_line_end-shown i ∙ ap has_end here_shown)
+            ∙ ap (λ (o : Option ℕ). fresh_by (has_end rest) o i) here ∙ fresh_is bad rest i after;
         shows = here_shown;
         follows = Follows-same i;
       }
@@ -71,7 +72,13 @@ module _ (bad : Option ℕ) where
   Takes-line_end i used rest here e u after =
       let head = headed bad i used rest LineEnd e u in
       let t = Takes-fresh_line (next i) [] rest here (next-shown i rest LineEnd head) refl after in
-      record { left = t.left; reads = ap (λ (o : Option Symbol). line_end_by o i) (shows_line_end i rest head) ∙ t.reads; shows = t.shows; follows = Follows-then i (next i) t.left (Follows-next i (λ s. record { whole = λ _. (fresh_line-settles (next i) t.left tt t.reads).1 })) t.follows }
+      record {
+        left = t.left;
+        reads = ap (λ (o : Option Symbol). line_end_by o i) (shows_line_end i rest head) ∙ t.reads;
+        shows = t.shows;
+        follows = Follows-then i (next i) t.left (Follows-next i (λ s. record { whole = λ _. (fresh_line-settles (next i) t.left tt t.reads).1 }))
+            t.follows;
+      }
 
   -- ---- `..`
 
@@ -95,13 +102,20 @@ module _ (bad : Option ℕ) where
   unfolding coming_number
   coming_read i n rest head low =
       let within : nat_lt largest_norm n ≡ false = first_of (search (rules, tests), grind (arith, tests)) in
-      ap (λ o. and_then o (λ m. fault_if (nat_lt largest_norm m) NumberTooLarge >> pure m)) (digits_read i n rest head low) ∙ ap (λ (b : Bool). (fault_if b NumberTooLarge >> pure n) i) within
+      ap (λ o. and_then o (λ m. fault_if (nat_lt largest_norm m) NumberTooLarge >> pure m)) (digits_read i n rest head low)
+      ∙ ap (λ (b : Bool). (fault_if b NumberTooLarge >> pure n) i) within
 
   -- what is done with the number that comes next
-  pub Takes-coming : {A : Type 0} (x : A) (n : ℕ) (F : Texts) (f : ℕ → Parser A) → n ≤ largest_norm → Takes bad (f n) x (one (Number n)) F → Takes bad (coming_number >>= f) x (one (Number n)) F
+  pub Takes-coming : {A : Type 0} (x : A) (n : ℕ) (F : Texts) (f : ℕ → Parser A) → n ≤ largest_norm → Takes bad (f n) x (one (Number n)) F →
+      Takes bad (coming_number >>= f) x (one (Number n)) F
   Takes-coming x n F f low t i used rest here e u after =
       let r = t i used rest here e u after in
-      record { left = r.left; reads = ap (λ o. and_then o f) (coming_read i n rest (headed bad i used rest (Number n) e u) low) ∙ r.reads; shows = r.shows; follows = r.follows }
+      record {
+        left = r.left;
+        reads = ap (λ o. and_then o f) (coming_read i n rest (headed bad i used rest (Number n) e u) low) ∙ r.reads;
+        shows = r.shows;
+        follows = r.follows;
+      }
 
   pub Takes-number : (limit n : ℕ) (kind : BadKind) → limit ≤ largest_norm → Takes bad (digits.number limit kind) n (number limit n) anywhere
   unfolding digits.number
@@ -117,4 +131,5 @@ module _ (bad : Option ℕ) where
   Takes-exactly n low i used rest here e u after =
       let head = headed bad i used rest (Number n) e u in
       Taken-next bad (digits.exactly n) i tt (Number n) rest head refl
-      (ap (λ o. and_then o (λ m. cond (m == n) skip syntax)) (digits_read i n rest head low) ∙ ap (λ (b : Bool). cond b skip syntax i) (same_number n))
+      (ap (λ o. and_then o (λ m. cond (m == n) skip syntax)) (digits_read i n rest head low)
+      ∙ ap (λ (b : Bool). cond b skip syntax i) (same_number n))

@@ -7,7 +7,8 @@ use Rattle.ct_problem.proofs.Frame.{shown, shows_sign, joined_to_right, on_secon
 use Rattle.ct_problem.proofs.Frame.{Takes-to_right, Takes-bind, Takes-then, Takes-last, Takes-eat, Takes-no_sign, Takes-number}
 use Rattle.ct_expr.specs.declared.expr.Expr.TheVariants as expr
 use Rattle.ct_problem.specs.Number as digits
-use Rattle.ct_problem.proofs.LexemeStarts.{Opens, Opens-joined, Opens-one, each-length, begun-length, begun-shows, length-shown, AfterAtom, AfterFactor, AfterTerm, after_factor}
+use Rattle.ct_problem.proofs.LexemeStarts.{Opens, Opens-joined, Opens-one, each-length, begun-length, begun-shows, length-shown, AfterAtom}
+use Rattle.ct_problem.proofs.LexemeStarts.{AfterFactor, AfterTerm, after_factor}
 use Rattle.ct_problem.proofs.TakenAtoms.{Takes-atom}
 
 module _ (bad : Option ℕ) (names : Names) where
@@ -30,15 +31,18 @@ module _ (bad : Option ℕ) (names : Names) where
     -- ---- how the rules begin
 
     symbol_opens : (w letters : List ℕ) (ls : List Lexeme) → (one (Word w) ▸ one (Sign 91) ▸ one (Word letters) ▸ one (Sign 93)) ls → Opens ls
-    symbol_opens w letters ls h = Opens-joined h (Opens-joined h.first (Opens-joined h.first.first (Opens-one (Word w) h.first.first.front h.first.first.first (λ rest. refl))))
+    symbol_opens w letters ls h =
+        Opens-joined h (Opens-joined h.first (Opens-joined h.first.first (Opens-one (Word w) h.first.first.front h.first.first.first (λ rest. refl))))
 
     atom_opens : (x : Expr) (ls : List Lexeme) → Atom x ls → Opens ls
     atom_opens x ls (IsAtom.whole n value u) = Opens-one (Number n) ls u.1 (λ rest. refl)
-    atom_opens x ls (IsAtom.ratio n d value some u) = Opens-joined u (Opens-joined u.first (Opens-one (Number n) u.first.front u.first.first.1 (λ rest. refl)))
+    atom_opens x ls (IsAtom.ratio n d value some u) =
+        Opens-joined u (Opens-joined u.first (Opens-one (Number n) u.first.front u.first.first.1 (λ rest. refl)))
     atom_opens x ls (IsAtom.variable letters at known value u) = Opens-one (Word letters) ls u (λ rest. refl)
     atom_opens x ls (IsAtom.shift letters at allowed acts value u) = symbol_opens (codes "S") letters ls u
     atom_opens x ls (IsAtom.derivation letters at allowed acts value u) = symbol_opens (codes "D") letters ls u
-    atom_opens x ls (IsAtom.nested u) = let first = inner_opens x ls u in record { head = Sign 40; back = first.0; parts = first.1; no_minus = λ rest. refl }
+    atom_opens x ls (IsAtom.nested u) = let first = inner_opens x ls u in
+        record { head = Sign 40; back = first.0; parts = first.1; no_minus = λ rest. refl }
 
     factor_opens : (x : Expr) (ls : List Lexeme) → Factor x ls → Opens ls
     factor_opens x ls (IsFactor.plain u) = atom_opens x ls u
@@ -72,16 +76,21 @@ module _ (bad : Option ℕ) (names : Names) where
     abbrev factors_by : ℕ → List Expr → Expr → Bool → Parser Expr
     factors_by n found x more = cond more (factors_from names operators inner n (found ++ x ∷ [])) (pure (product_of (found ++ x ∷ [])))
 
-    Takes-factors : (more : List Expr) (first : Expr) (found : List Expr) (n : ℕ) → length more ≤ n → Takes bad (factors_from names operators inner (suc n) found) (product_of (found ++ first ∷ more)) (Factor first ▸ each MoreFactor more) AfterTerm
+    Takes-factors : (more : List Expr) (first : Expr) (found : List Expr) (n : ℕ) → length more ≤ n →
+        Takes bad (factors_from names operators inner (suc n) found) (product_of (found ++ first ∷ more))
+        (Factor first ▸ each MoreFactor more) AfterTerm
     unfolding factors_from
     Takes-factors [] first found n enough =
         Takes-bind bad _ (Takes-factor first)
-        (Takes-as bad nothing nothing (λ rest. shows_sign 42 rest ≡ false) AfterTerm (eat 42 >>= factors_by n found first) (product_of (found ++ first ∷ [])) (λ ls m. m) (λ rest a. a.no_factor)
+        (Takes-as bad nothing nothing (λ rest. shows_sign 42 rest ≡ false) AfterTerm (eat 42 >>= factors_by n found first)
+        (product_of (found ++ first ∷ [])) (λ ls m. m) (λ rest a. a.no_factor)
         (Takes-last bad _ (Takes-no_sign bad 42) (λ k. refl)))
         (λ back rest m after. subst (λ (ls : List Lexeme). AfterFactor (ls ++ rest)) (sym m) (after_factor rest after))
     Takes-factors (y ∷ more) first found zero enough = let no : ⊥ = omega (arith, enough) in absurd no
     Takes-factors (y ∷ more) first found (suc n) enough =
-        Takes-as bad (Factor first ▸ (one (Sign 42) ▸ (Factor y ▸ each MoreFactor more))) (Factor first ▸ each MoreFactor (y ∷ more)) AfterTerm AfterTerm (factors_from names operators inner (suc (suc n)) found) (product_of (found ++ first ∷ y ∷ more))
+        Takes-as bad (Factor first ▸ (one (Sign 42) ▸ (Factor y ▸ each MoreFactor more)))
+        (Factor first ▸ each MoreFactor (y ∷ more)) AfterTerm AfterTerm (factors_from names operators inner (suc (suc n)) found)
+        (product_of (found ++ first ∷ y ∷ more))
         (λ ls h. on_second (λ xs k. joined_to_right k) h) (λ rest a. a)
         (Takes-value bad
         (ap product_of (append_assoc found (first ∷ []) (y ∷ more)))
@@ -104,4 +113,5 @@ module _ (bad : Option ℕ) (names : Names) where
         let left = room i used rest e in
         let enough : length t.more ≤ length i.left = omega (arith, more, parts, length-append t.spelled.front t.spelled.back, left) in
         let r = Takes-factors t.more t.first [] (length i.left) enough i used rest here e t.spelled after in
-        subst (λ (y : Expr). Taken (term names operators inner) i y rest) (sym t.value) (record { left = r.left; reads = r.reads; shows = r.shows; follows = r.follows })
+        subst (λ (y : Expr). Taken (term names operators inner) i y rest) (sym t.value)
+        (record { left = r.left; reads = r.reads; shows = r.shows; follows = r.follows })

@@ -10,7 +10,8 @@ use Rattle.ct_problem.proofs.NewNames.{IsSpelled, words_are, words_before, words
 use Rattle.ct_problem.proofs.SpelledTexts.{problem_is, problem_spelled}
 use Rattle.ct_problem.proofs.WellFormedLines.{dens_are, list_within, lets_are, operators_of}
 
-generators_are : (names : Names) → length names.variables ≤ 6 → (g : Gens) (ls : List Lexeme) → grammar.generators names g ls → IsGens names.variables (length names.lets) g
+generators_are : (names : Names) → length names.variables ≤ 6 → (g : Gens) (ls : List Lexeme) → grammar.generators names g ls →
+    IsGens names.variables (length names.lets) g
 generators_are names few (Listed xs) ls h = operators_of names few (codes "gen") xs ls h
 generators_are names few (Named at) ls h = list_within names at h.first.back h.first.second
 
@@ -40,12 +41,15 @@ says_is p ls s words =
     let gens = dens.first in
     let lets = gens.first in
     let first = lets.first in
-    let spelled = words_behind first (words_before lets (words_before gens (words_before dens (words_before targets (words_before orders (words_before degrees (words_before s.spelled words))))))) in
+    let spelled = words_behind first
+    (words_before lets (words_before gens
+    (words_before dens (words_before targets (words_before orders (words_before degrees (words_before s.spelled words))))))) in
     record {
       names = names_are p.variables first.back s.names first.second spelled;
       few_lets = lets.second.0;
       forms = lets_are p.variables few [] p.definitions lets.back lets.second.1;
-      gens = subst (λ (n : ℕ). IsGens p.variables n p.generators) (length-map p.definitions (λ d. d.text)) (generators_are names few p.generators gens.back gens.second);
+      gens = subst (λ (n : ℕ). IsGens p.variables n p.generators) (length-map p.definitions (λ d. d.text))
+          (generators_are names few p.generators gens.back gens.second);
       dens = dens_are names few p.dens dens.back dens.second;
       targets = operators_of names few (codes "target") p.targets targets.back targets.second;
       orders = range_is (codes "order") 8 p.orders orders.back orders.second;
@@ -71,7 +75,8 @@ pub draft_formed :
 unfolding reading_of_draft problem
 draft_formed command i j k l names definitions d end at read_head read_body read_end each =
     let read : problem command i ≡ Ok ((reading_of_draft d, end), l) =
-    ap (λ (o : Outcome (List Naming × List Definition)). and_then o (λ h. body h.0 h.1 >>= (λ p. last_line command p >>= (λ to. pure (p, to))))) read_head
+    ap (λ (o : Outcome (List Naming × List Definition)). and_then o (λ h. body h.0 h.1 >>= (λ p. last_line command p >>= (λ to. pure (p, to)))))
+    read_head
     ∙ ap (λ (o : Outcome Reading). and_then o (λ p. last_line command p >>= (λ to. pure (p, to)))) read_body
     ∙ ap (λ (o : Outcome ℕ). and_then o (λ to. pure (reading_of_draft d, to))) read_end in
     let p = problem_is command i l (reading_of_draft d, end) read in

@@ -27,9 +27,11 @@ module _ (names : Names) (few : length names.variables ≤ 6) where
 
   cofactors_are : (place : ℕ) (xs : List Expr) (ls : List Lexeme) → cofactors names place xs ls → Each (IsOperator names.variables) xs
   cofactors_are place [] ls h = tt
-  cofactors_are place (x ∷ xs) ls h = (operator_of names few x h.first.second.front h.first.second.first, cofactors_are (place + 1) xs h.back h.second)
+  cofactors_are place (x ∷ xs) ls h =
+      (operator_of names few x h.first.second.front h.first.second.first, cofactors_are (place + 1) xs h.back h.second)
 
-pub report_formed : (variables : List Naming) → length variables ≤ 6 → (count : ℕ) (bytes : List ℕ) (from : ℕ) (r : Report) → ReportStandsFor variables count bytes from r → IsReportOn variables count r
+pub report_formed : (variables : List Naming) → length variables ≤ 6 → (count : ℕ) (bytes : List ℕ) (from : ℕ) (r : Report) →
+    ReportStandsFor variables count bytes from r → IsReportOn variables count r
 report_formed variables few count bytes from r s =
     let names = declared variables in
     let lines = s.lines.first in
@@ -37,8 +39,10 @@ report_formed variables few count bytes from r s =
     let scale = parts.first in
     let quotients = scale.first in
     let telescoper = quotients.first in
-    let q = with_are (IsQuotient variables) (quotient names) (quotient_is names few) (summed_texts variables) r.quotients quotients.back quotients.second in
-    let f = with_are (IsPolynomial variables) (part names (codes "part") false) (part_is names few) (summed_texts variables) r.factors parts.back parts.second in
+    let q = with_are (IsQuotient variables) (quotient names) (quotient_is names few)
+    (summed_texts variables) r.quotients quotients.back quotients.second in
+    let f = with_are (IsPolynomial variables) (part names (codes "part") false) (part_is names few)
+    (summed_texts variables) r.factors parts.back parts.second in
     record {
       telescoper = operator_of names few r.telescoper telescoper.second.second.front telescoper.second.second.first;
       quotients = q.0;

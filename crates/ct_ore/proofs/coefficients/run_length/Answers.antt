@@ -15,7 +15,8 @@ halving-preserved-in-Equal c =
     let more : middle + 1 ≡ suc middle = omega arith in
     record {
       same = subst (λ n. AllHave c.args.m.now (take n c.args.ts.now)) (sym more)
-          (same_before c.args.m.now c.args.ts.now middle c.index-ts-middle.result inside c.index-ts-middle.is c.requires.written c.requires.first (ap (λ (t : CoefficientTerm). t.symbols) c.index-ts-middle.is ∙ mono_tied _ _ (sym c.in-Equal.ensures)));
+          (same_before c.args.m.now c.args.ts.now middle c.index-ts-middle.result inside c.index-ts-middle.is c.requires.written c.requires.first
+          (ap (λ (t : CoefficientTerm). t.symbols) c.index-ts-middle.is ∙ mono_tied _ _ (sym c.in-Equal.ensures)));
       other = c.halving.invariant.other;
       order = omega (arith, within);
       within = c.halving.invariant.within;
@@ -28,7 +29,10 @@ halving-preserved c =
     let inside : middle < length c.args.ts.now = omega (arith, within, c.halving.invariant.within) in
     record {
       same = c.halving.invariant.same;
-      other = other_at c.args.m.now c.args.ts.now middle c.index-ts-middle.result inside c.index-ts-middle.is (λ same. c.in_default.not-Equal (c.cmp.ensures ∙ ap (λ s. mono_cmp s c.args.m.now) (sym (ap (λ (t : CoefficientTerm). t.symbols) c.index-ts-middle.is) ∙ same) ∙ mono_same c.args.m.now));
+      other = other_at c.args.m.now c.args.ts.now middle c.index-ts-middle.result inside c.index-ts-middle.is
+          (λ same. c.in_default.not-Equal
+          (c.cmp.ensures ∙ ap (λ s. mono_cmp s c.args.m.now) (sym (ap (λ (t : CoefficientTerm). t.symbols) c.index-ts-middle.is) ∙ same)
+          ∙ mono_same c.args.m.now));
       order = omega arith;
       within = omega (arith, inside);
     }

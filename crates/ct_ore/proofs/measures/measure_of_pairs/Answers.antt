@@ -16,7 +16,8 @@ measuring-preserved c =
     let own = coefficient_measure c.args.weigh c.in-Some.p.now.coef in
     let made = symbols_measure a c.args.weigh c.in-Some.p.now.mono c.args.qs.now in
     summing_more c.capped_product-row.result (own * made) (together a c.args.weigh c.args.qs.now (op_entries c.in-Some.more.now))
-    (ap (λ ps. together a c.args.weigh c.args.qs.now (op_entries ps)) c.in-Some.ensures.cases.0 ∙ together-cons a c.args.weigh c.args.qs.now (c.in-Some.p.now.mono, c.in-Some.p.now.coef) (op_entries c.in-Some.more.now))
+    (ap (λ ps. together a c.args.weigh c.args.qs.now (op_entries ps)) c.in-Some.ensures.cases.0
+    ∙ together-cons a c.args.weigh c.args.qs.now (c.in-Some.p.now.mono, c.in-Some.p.now.coef) (op_entries c.in-Some.more.now))
     c.measuring.invariant
     (c.capped_product-row.ensures own made c.measure_of_coefficient.ensures c.measure_of_symbols-made.ensures)
     c.capped_sum-sum.ensures

@@ -7,7 +7,8 @@ use Rattle.ct_ore.proofs.measures.measure_of_pairs.Given as goal
 
 abbrev pub invariant-measuring : goal.invariant-measuring
 invariant-measuring l =
-    IsSumming (together (actions_of l.algebra) l.weigh l.qs (op_entries l.fn.ps)) (together (actions_of l.algebra) l.weigh l.qs (op_entries l.rest)) l.sum
+    IsSumming (together (actions_of l.algebra) l.weigh l.qs (op_entries l.fn.ps))
+    (together (actions_of l.algebra) l.weigh l.qs (op_entries l.rest)) l.sum
 
 abbrev pub decreases-measuring : goal.decreases-measuring
 decreases-measuring l = length l.rest

@@ -7,7 +7,9 @@ use Rattle.ct_ore.proofs.measures.times_name.Goals as goal
 
 pub returns-then-exp-eq0 : goal.returns-then-exp-eq0
 returns-then-exp-eq0 c = λ v before.
-    let one : name_measure c.args.weigh (actions_of c.args.algebra.now (name_with c.args.i)) (exp c.args.m.now c.args.i) (exp c.args.n.now c.args.i) ≡ 1 = name_alone c.args.weigh (actions_of c.args.algebra.now (name_with c.args.i)) (exp c.args.m.now c.args.i) (exp c.args.n.now c.args.i) (sym c.exp.ensures ∙ c.if-exp-eq0.true) in
+    let one : name_measure c.args.weigh (actions_of c.args.algebra.now (name_with c.args.i)) (exp c.args.m.now c.args.i) (exp c.args.n.now c.args.i) ≡
+    1 = name_alone c.args.weigh (actions_of c.args.algebra.now (name_with c.args.i)) (exp c.args.m.now c.args.i) (exp c.args.n.now c.args.i)
+    (sym c.exp.ensures ∙ c.if-exp-eq0.true) in
     subst (λ x. IsCapped x c.args.product) (omega (arith, ap (λ x. v * x) one)) before
 
 pub returns : goal.returns

@@ -7,7 +7,8 @@ pub returns-in_ok-push : goal.returns-in_ok-push
 returns-in_ok-push c =
     let t : OpTerm = record { mono = c.args.a.now.mono; coef = c.in_ok-coef.coef } in
     let pushed : c.push.new.self.items ≡ c.args.out.now.items ++ t ∷ [] = search rules in
-    let some : c.in_ok-coef.coef ≡ polys.zero → ⊥ = λ zero. let told : IsTrue c.is_zero.result = c.is_zero.ensures.1 zero in grind (arith, common_steps) in
+    let some : c.in_ok-coef.coef ≡ polys.zero → ⊥ = λ zero. let told : IsTrue c.is_zero.result = c.is_zero.ensures.1 zero in
+    grind (arith, common_steps) in
     sum_kept monomials polys.group entry c.args.out.now.items t pushed c.in_ok-coef.ensures.value (λ zero. some (c.in_ok-coef.ensures.value ∙ zero))
 
 pub returns-else-not-is_zero : goal.returns-else-not-is_zero

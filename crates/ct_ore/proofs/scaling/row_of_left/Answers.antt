@@ -12,7 +12,8 @@ product_of_both-product-requires c =
 pub multiplying-preserved : goal.multiplying-preserved
 multiplying-preserved c =
     let times = multiplied c.args.u.now.mono c.args.u.now.coef in
-    let made : c.push.new.self.items ≡ c.multiplying.out.items ++ times (c.in-Some.t.now ∷ []) = (search rules) ∙ ap (λ t. c.multiplying.out.items ++ t ∷ []) c.product_of_both-product.ensures in record {
+    let made : c.push.new.self.items ≡ c.multiplying.out.items ++ times (c.in-Some.t.now ∷ []) =
+    (search rules) ∙ ap (λ t. c.multiplying.out.items ++ t ∷ []) c.product_of_both-product.ensures in record {
       can = (scale_right (c.in-Some.t.now ∷ []) c.in-Some.more.now c.in-Some.ensures.cases.0 c.multiplying.invariant.can).1;
       whole = ap (λ us. us ++ times c.in-Some.more.now) made
           ∙ append_assoc c.multiplying.out.items (times (c.in-Some.t.now ∷ [])) (times c.in-Some.more.now)
@@ -21,4 +22,5 @@ multiplying-preserved c =
 
 pub returns : goal.returns
 returns c =
-    sym (append-nil c.multiplying.out.items) ∙ ap (λ ts. c.multiplying.out.items ++ multiplied c.args.u.now.mono c.args.u.now.coef ts) (sym (no_length c.multiplying.rest.now c.in_default.ensures.cases)) ∙ c.multiplying.invariant.whole
+    sym (append-nil c.multiplying.out.items) ∙ ap (λ ts. c.multiplying.out.items ++ multiplied c.args.u.now.mono c.args.u.now.coef ts)
+    (sym (no_length c.multiplying.rest.now c.in_default.ensures.cases)) ∙ c.multiplying.invariant.whole

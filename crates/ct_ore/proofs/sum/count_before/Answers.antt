@@ -12,7 +12,8 @@ halving-preserved-in-Less c =
     record {
       before = record {
         all = subst (λ n. AllBefore c.args.b.now (take n c.args.ts.now)) (sym more)
-            (further_before c.args.b.now c.args.ts.now middle c.index-ts-middle.result inside c.index-ts-middle.is c.requires.written (sym c.in-Less.ensures));
+            (further_before c.args.b.now c.args.ts.now middle c.index-ts-middle.result inside c.index-ts-middle.is c.requires.written
+            (sym c.in-Less.ensures));
         within = omega (arith, inside);
         some = omega (arith, inside);
       };

@@ -14,4 +14,5 @@ returns-then-is_zero-2 c = λ v w one other.
 
 pub returns : goal.returns
 returns c = λ v w one other.
-    c.positive_product.ensures v w (told_positive v (sym (c.is_zero.ensures v one) ∙ c.if-is_zero.false)) (told_positive w (sym (c.is_zero-2.ensures w other) ∙ c.if-is_zero-2.false)) one other
+    c.positive_product.ensures v w (told_positive v (sym (c.is_zero.ensures v one) ∙ c.if-is_zero.false))
+    (told_positive w (sym (c.is_zero-2.ensures w other) ∙ c.if-is_zero-2.false)) one other

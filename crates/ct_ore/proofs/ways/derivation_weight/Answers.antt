@@ -13,4 +13,5 @@ returns-in_err-way c =
 pub returns : goal.returns
 returns c =
     let end : c.loop-j.j ≡ min c.args.k c.args.e + 1 = omega (arith, c.loop-j.auto.j-end, c.min-j-end.ensures) in
-    subst (λ v. IsCapped v c.loop-j.weight) (ap (λ m. ways_below m c.args.k c.args.e) end ∙ sym (derivation_weight-min c.args.k c.args.e)) c.loop-j.invariant.sum
+    subst (λ v. IsCapped v c.loop-j.weight) (ap (λ m. ways_below m c.args.k c.args.e) end
+    ∙ sym (derivation_weight-min c.args.k c.args.e)) c.loop-j.invariant.sum

@@ -10,6 +10,7 @@ returns-then-k-eq0 c =
 
 pub loop-j-preserved : goal.loop-j-preserved
 loop-j-preserved c =
-    let next : (1 + c.args.k) ^ (c.loop-j.j + 1) ≡ (1 + c.args.k) ^ c.loop-j.j * (1 + c.args.k) = ap (λ m. (1 + c.args.k) ^ m) (omega arith) ∙ pow-suc (1 + c.args.k) c.loop-j.j in
+    let next : (1 + c.args.k) ^ (c.loop-j.j + 1) ≡ (1 + c.args.k) ^ c.loop-j.j * (1 + c.args.k) =
+    ap (λ m. (1 + c.args.k) ^ m) (omega arith) ∙ pow-suc (1 + c.args.k) c.loop-j.j in
     subst (λ v. IsCapped v c.capped_product-weight.result) (sym next)
     (c.capped_product-weight.ensures ((1 + c.args.k) ^ c.loop-j.j) (1 + c.args.k) c.loop-j.invariant (search rules))

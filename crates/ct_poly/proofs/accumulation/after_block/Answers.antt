@@ -10,5 +10,6 @@ returns-then-is_gt c =
       block = c.split_at.result.0.now;
       whole = c.split_at.ensures.by_index.0;
       long = c.split_at.ensures.front_len;
-      above = subst (BeginsAbove c.args.mono.now) (sym c.in_ok-a.ensures.cases.0) (mono_turned_back _ _ (sym c.cmp.ensures ∙ greater_is c.cmp.result told));
+      above = subst (BeginsAbove c.args.mono.now) (sym c.in_ok-a.ensures.cases.0)
+          (mono_turned_back _ _ (sym c.cmp.ensures ∙ greater_is c.cmp.result told));
     }

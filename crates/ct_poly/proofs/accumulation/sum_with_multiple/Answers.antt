@@ -31,7 +31,8 @@ merging-preserved-in_ok-push c =
     let meets : Meets c.split_above.result.1.now (times_term c.args.t.now c.in-Some.b.now) c.met-coef.result.0 c.met-coef.result.1.now =
     subst (λ w. Meets c.split_above.result.1.now w c.met-coef.result.0 c.met-coef.result.1.now) made c.met-coef.ensures in
     let some : c.met-coef.result.0 ≡ pos 0 → ⊥ = search rules in
-    let pushed : c.push.new.self.items ≡ (c.merging.out.items ++ c.split_above.result.0.now) ++ record { mono = c.product_of_term-product.result.mono; coef = c.met-coef.result.0 } ∷ [] = search rules in
+    let pushed : c.push.new.self.items ≡ (c.merging.out.items ++ c.split_above.result.0.now) ++
+    record { mono = c.product_of_term-product.result.mono; coef = c.met-coef.result.0 } ∷ [] = search rules in
     product_pushed c.in-Some.ensures.cases.0 c.merging.invariant c.split_above.ensures.whole split meets c.push.new.self.items some
     (pushed ∙ ap (λ w. (c.merging.out.items ++ c.split_above.result.0.now) ++ record { mono = w.mono; coef = c.met-coef.result.0 } ∷ []) made)
 

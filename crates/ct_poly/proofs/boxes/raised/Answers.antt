@@ -9,5 +9,6 @@ pub returns : goal.returns
 returns c =
     let known = c.requires.known in (
       omega (arith, ap (λ w. exp w c.args.i) c.with_exp.ensures, exp-with_exponent_same c.args.i c.args.e c.args.m.now known),
-      subst (Divides c.args.m.now) (sym c.with_exp.ensures) (divides_greater c.args.i c.args.e c.args.m.now known (omega (arith, c.if-e-exp.false, c.exp.ensures))),
+      subst (Divides c.args.m.now) (sym c.with_exp.ensures)
+          (divides_greater c.args.i c.args.e c.args.m.now known (omega (arith, c.if-e-exp.false, c.exp.ensures))),
     )

@@ -10,5 +10,7 @@ returns c =
     let table : IsTable c.in-Some.table.tops (poly_of_terms c.args.ps.now) c.as_mut_slice.result.now =
     subst (IsTable c.in-Some.table.tops (poly_of_terms c.args.ps.now)) (sym c.as_mut_slice.ensures.value) whole.table in
     IfOk-weaker c.taken_out.result _ _
-    (λ o found. IfSome_then o found (λ q is. subst (λ m. IsQuotient (poly_of_terms c.args.ps.now) m.count m.norm c.args.by.now q.items) c.measure_of_terms.ensures (is (poly_of_terms c.args.ps.now) table)))
+    (λ o found. IfSome_then o found
+    (λ q is. subst (λ m. IsQuotient (poly_of_terms c.args.ps.now) m.count m.norm c.args.by.now q.items) c.measure_of_terms.ensures
+    (is (poly_of_terms c.args.ps.now) table)))
     c.taken_out.ensures

@@ -11,10 +11,13 @@ sum_of_coefs-requires c =
     let four : FitsSigned w128 c.product_of_coefs-product.result = search rules in
     let product : c.product_of_coefs-product.result ≡ c.args.coef *ℤ c.in-Some.s.now.coef = simp to_z-of_z at c.product_of_coefs-product.ensures in
     let adding : IsAdding c.args.cells.now c.args.base c.args.coef c.args.spots.now c.adding.cells c.adding.left.now =
-    subst (λ x. IsAdding c.args.cells.now c.args.base x c.args.spots.now c.adding.cells c.adding.left.now) (to_z-of_z w128 c.args.coef three) c.adding.invariant in
+    subst (λ x. IsAdding c.args.cells.now c.args.base x c.args.spots.now c.adding.cells c.adding.left.now)
+    (to_z-of_z w128 c.args.coef three) c.adding.invariant in
     let fits = sum_fits c.in-Some.ensures.cases.0 adding c.product_of_coefs-product.result product c.requires.small in
-    subst (λ x. nat_abs x + nat_abs (to_z w128 (of_z w128 c.product_of_coefs-product.result)) ≤ largest_norm) (sym (to_z-of_z w128 (slice_index_or c.adding.cells (c.args.base + c.in-Some.s.now.cell) (pos 0)) one))
-    (subst (λ y. nat_abs (slice_index_or c.adding.cells (c.args.base + c.in-Some.s.now.cell) (pos 0)) + nat_abs y ≤ largest_norm) (sym (to_z-of_z w128 c.product_of_coefs-product.result four)) fits)
+    subst (λ x. nat_abs x + nat_abs (to_z w128 (of_z w128 c.product_of_coefs-product.result)) ≤ largest_norm)
+    (sym (to_z-of_z w128 (slice_index_or c.adding.cells (c.args.base + c.in-Some.s.now.cell) (pos 0)) one))
+    (subst (λ y. nat_abs (slice_index_or c.adding.cells (c.args.base + c.in-Some.s.now.cell) (pos 0)) + nat_abs y ≤ largest_norm)
+    (sym (to_z-of_z w128 c.product_of_coefs-product.result four)) fits)
 
 pub adding-preserved : goal.adding-preserved
 adding-preserved c =
@@ -24,10 +27,17 @@ adding-preserved c =
     let four : FitsSigned w128 c.product_of_coefs-product.result = search rules in
     let five : FitsSigned w128 c.sum_of_coefs.result = search rules in
     let product : c.product_of_coefs-product.result ≡ c.args.coef *ℤ c.in-Some.s.now.coef = simp to_z-of_z at c.product_of_coefs-product.ensures in
-    let sum : c.sum_of_coefs.result ≡ slice_index_or c.adding.cells (c.args.base + c.in-Some.s.now.cell) (pos 0) +ℤ c.product_of_coefs-product.result = simp to_z-of_z at c.sum_of_coefs.ensures in
+    let sum : c.sum_of_coefs.result ≡ slice_index_or c.adding.cells (c.args.base + c.in-Some.s.now.cell)
+    (pos 0) +ℤ c.product_of_coefs-product.result = simp to_z-of_z at c.sum_of_coefs.ensures in
     let adding : IsAdding c.args.cells.now c.args.base c.args.coef c.args.spots.now c.adding.cells c.adding.left.now =
-    subst (λ x. IsAdding c.args.cells.now c.args.base x c.args.spots.now c.adding.cells c.adding.left.now) (to_z-of_z w128 c.args.coef three) c.adding.invariant in
-    let next : IsAdding c.args.cells.now c.args.base c.args.coef c.args.spots.now (slice_set c.adding.cells (c.args.base + c.in-Some.s.now.cell) c.sum_of_coefs.result) c.in-Some.rest.now =
-    one_added c.in-Some.ensures.cases.0 adding c.sum_of_coefs.result (sum ∙ ap (λ y. slice_index_or c.adding.cells (c.args.base + c.in-Some.s.now.cell) (pos 0) +ℤ y) product) in
-    subst (λ x. IsAdding c.args.cells.now c.args.base x c.args.spots.now (slice_set c.adding.cells (c.args.base + c.in-Some.s.now.cell) (to_z w128 (of_z w128 c.sum_of_coefs.result))) c.in-Some.rest.now) (sym (to_z-of_z w128 c.args.coef three))
-    (subst (λ y. IsAdding c.args.cells.now c.args.base c.args.coef c.args.spots.now (slice_set c.adding.cells (c.args.base + c.in-Some.s.now.cell) y) c.in-Some.rest.now) (sym (to_z-of_z w128 c.sum_of_coefs.result five)) next)
+    subst (λ x. IsAdding c.args.cells.now c.args.base x c.args.spots.now c.adding.cells c.adding.left.now)
+    (to_z-of_z w128 c.args.coef three) c.adding.invariant in
+    let next : IsAdding c.args.cells.now c.args.base c.args.coef c.args.spots.now
+    (slice_set c.adding.cells (c.args.base + c.in-Some.s.now.cell) c.sum_of_coefs.result) c.in-Some.rest.now =
+    one_added c.in-Some.ensures.cases.0 adding c.sum_of_coefs.result
+    (sum ∙ ap (λ y. slice_index_or c.adding.cells (c.args.base + c.in-Some.s.now.cell) (pos 0) +ℤ y) product) in
+    subst (λ x. IsAdding c.args.cells.now c.args.base x c.args.spots.now
+    (slice_set c.adding.cells (c.args.base + c.in-Some.s.now.cell) (to_z w128 (of_z w128 c.sum_of_coefs.result))) c.in-Some.rest.now)
+    (sym (to_z-of_z w128 c.args.coef three))
+    (subst (λ y. IsAdding c.args.cells.now c.args.base c.args.coef c.args.spots.now
+    (slice_set c.adding.cells (c.args.base + c.in-Some.s.now.cell) y) c.in-Some.rest.now) (sym (to_z-of_z w128 c.sum_of_coefs.result five)) next)

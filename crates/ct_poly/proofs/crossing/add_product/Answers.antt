@@ -13,7 +13,8 @@ pub multiplying-preserved : goal.multiplying-preserved
 multiplying-preserved c =
     let fits : FitsSigned w128 c.in-Some.t.now.coef = search rules in
     let long : length c.add_multiple.new.cells ≡ length c.multiplying.cells = search rules in
-    multiplying_more c.in-Some.ensures.cases.0 c.cell_of.ensures c.requires.inside.2 c.multiplying.invariant (to_z w128 (of_z w128 c.in-Some.t.now.coef)) (to_z-of_z w128 _ fits)
+    multiplying_more c.in-Some.ensures.cases.0 c.cell_of.ensures c.requires.inside.2 c.multiplying.invariant
+    (to_z w128 (of_z w128 c.in-Some.t.now.coef)) (to_z-of_z w128 _ fits)
     c.add_multiple.ensures.cells c.add_multiple.ensures.small long
 
 pub returns : goal.returns

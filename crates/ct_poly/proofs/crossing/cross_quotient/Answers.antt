@@ -40,10 +40,13 @@ returns c =
     let third = c.list-x_terms.ensures in
     let fourth = c.list-y_terms.ensures in
     let room = some_is _ c.in-Some.is c.room_for_cross.ensures in
-    let negative : IsListOf (polys.neg (poly_of_terms c.list-a_terms.result.now)) (length c.list-a_terms.result.now) (size_of c.list-a_terms.result.now) c.as_slice.result.now =
+    let negative : IsListOf (polys.neg (poly_of_terms c.list-a_terms.result.now)) (length c.list-a_terms.result.now)
+    (size_of c.list-a_terms.result.now) c.as_slice.result.now =
     rw c.as_slice.ensures.value c.in_ok-negative.ensures in
-    let list : IsListOf (poly_of_terms c.in-Some-2.found.items) (length c.in-Some-2.found.items) (size_of c.in-Some-2.found.items) c.in_ok-terms.terms.items =
+    let list : IsListOf (poly_of_terms c.in-Some-2.found.items) (length c.in-Some-2.found.items)
+    (size_of c.in-Some-2.found.items) c.in_ok-terms.terms.items =
     rw (← c.as_slice-2.ensures.value) c.in_ok-terms.ensures in
-    subst (IsCrossQuotient c.args.p.now c.args.a.now c.args.x.now c.args.y.now c.args.by.now) (sym (poly_is c.in_ok-terms.terms.items list c.of_terms.ensures))
+    subst (IsCrossQuotient c.args.p.now c.args.a.now c.args.x.now c.args.y.now c.args.by.now)
+    (sym (poly_is c.in_ok-terms.terms.items list c.of_terms.ensures))
     (cross_answer first second third fourth c.list-by_terms.ensures negative c.requires (has_room first second third fourth room)
     (counts_are first second third fourth room) (norms_are first second third fourth room) (some_is _ c.in-Some-2.is c.in_ok-found.ensures) list)

@@ -16,9 +16,12 @@ lowering-preserved-in_ok-push c =
     let scaled : c.product_of_coefs-coef.result ≡ c.in-Some.t.now.coef *ℤ c.from.result = simp to_z-of_z at c.product_of_coefs-coef.ensures in
     let made : Term = record { mono = c.with_exp-mono.result; coef = c.product_of_coefs-coef.result } in
     let pushed : c.push.new.self.items ≡ c.lowering.out.items ++ made ∷ [] = search rules in
-    let one : derivative c.args.i c.in-Some.t.now ≡ made ∷ [] = derivative_of_name c.args.i c.in-Some.t.now made c.exp-e.result (omega arith) c.exp-e.ensures c.with_exp-mono.ensures (scaled ∙ ap (λ z. c.in-Some.t.now.coef *ℤ z) c.from.ensures) in
+    let one : derivative c.args.i c.in-Some.t.now ≡ made ∷ [] =
+    derivative_of_name c.args.i c.in-Some.t.now made c.exp-e.result (omega arith) c.exp-e.ensures c.with_exp-mono.ensures
+    (scaled ∙ ap (λ z. c.in-Some.t.now.coef *ℤ z) c.from.ensures) in
     making_more c.in-Some.ensures.cases.0 (pushed ∙ ap (λ ts. c.lowering.out.items ++ ts) (sym one)) c.lowering.invariant
 
 pub returns : goal.returns
 returns c =
-    derivative_is c.args.i c.requires.known c.args.ts.now c.lowering.out.items c.requires.falling (making_ended c.in_default.ensures.cases c.lowering.invariant)
+    derivative_is c.args.i c.requires.known c.args.ts.now c.lowering.out.items c.requires.falling
+    (making_ended c.in_default.ensures.cases c.lowering.invariant)

@@ -15,7 +15,8 @@ sum_with_multiple-requires-clause-small c =
     let mine : FitsSigned w128 c.args.u.now.coef = search rules in
     let fits : FitsSigned w128 c.negative_of_coef.result = search rules in
     let negative : c.negative_of_coef.result ≡ neg_ℤ c.args.u.now.coef = simp to_z-of_z at c.negative_of_coef.ensures in
-    merge_small c.in-Some.ensures.cases.0 c.in-Some-split_first.ensures.cases.0 c.requires.falling c.requires.next _ (to_z-of_z w128 _ fits ∙ negative) c.requires.small
+    merge_small c.in-Some.ensures.cases.0 c.in-Some-split_first.ensures.cases.0 c.requires.falling c.requires.next _
+    (to_z-of_z w128 _ fits ∙ negative) c.requires.small
 
 pub returns : goal.returns
 returns c =
@@ -23,5 +24,6 @@ returns c =
     let fits : FitsSigned w128 c.negative_of_coef.result = search rules in
     let negative : c.negative_of_coef.result ≡ neg_ℤ c.args.u.now.coef = simp to_z-of_z at c.negative_of_coef.ensures in
     IfOk-weaker c.sum_with_multiple.result _ _
-    (λ v sum. rest_is_listed c.in-Some.ensures.cases.0 c.in-Some-split_first.ensures.cases.0 c.requires.falling c.requires.next _ v.items (to_z-of_z w128 _ fits ∙ negative) sum)
+    (λ v sum. rest_is_listed c.in-Some.ensures.cases.0 c.in-Some-split_first.ensures.cases.0 c.requires.falling c.requires.next _ v.items
+    (to_z-of_z w128 _ fits ∙ negative) sum)
     c.sum_with_multiple.ensures

@@ -6,4 +6,5 @@ returns-in-None c = (λ wrong. cc, λ product. absurd (c.in-None.ensures.divides
 
 pub returns-in-Some : goal.returns-in-Some
 returns-in-Some c =
-    rw c.is_eq.ensures (quotient_tied c.args.whole.now c.args.m.now c.args.n.now c.in-Some.quotient c.cmp.result c.in-Some.ensures.divides c.cmp.ensures)
+    rw c.is_eq.ensures (quotient_tied c.args.whole.now c.args.m.now c.args.n.now c.in-Some.quotient c.cmp.result c.in-Some.ensures.divides
+    c.cmp.ensures)

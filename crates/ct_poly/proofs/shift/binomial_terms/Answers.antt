@@ -8,11 +8,13 @@ returns-clause-list c =
     let first : Term = record { mono = c.name.result; coef = pos 1 } in
     let second : Term = record { mono = c.one.result; coef = c.from.result } in
     let both : c.push-2.new.self.items ≡ first ∷ second ∷ [] = search rules in
-    binomial_listed c.args.i c.requires.known c.args.by c.requires.positive first second c.push-2.new.self.items c.name.ensures (search rules) c.one.ensures c.from.ensures both
+    binomial_listed c.args.i c.requires.known c.args.by c.requires.positive first second c.push-2.new.self.items c.name.ensures
+    (search rules) c.one.ensures c.from.ensures both
 
 pub returns-clause-low : goal.returns-clause-low
 returns-clause-low c =
     let first : Term = record { mono = c.name.result; coef = pos 1 } in
     let second : Term = record { mono = c.one.result; coef = c.from.result } in
     let both : c.push-2.new.self.items ≡ first ∷ second ∷ [] = search rules in
-    binomial_low c.args.i c.requires.known c.args.by c.requires.positive first second c.push-2.new.self.items c.name.ensures (search rules) c.one.ensures c.from.ensures both
+    binomial_low c.args.i c.requires.known c.args.by c.requires.positive first second c.push-2.new.self.items c.name.ensures
+    (search rules) c.one.ensures c.from.ensures both

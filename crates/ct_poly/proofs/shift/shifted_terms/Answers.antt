@@ -8,4 +8,9 @@ powers_up_to-requires-clause-low c =
 
 pub powers_up_to-requires-clause-small : goal.powers_up_to-requires-clause-small
 powers_up_to-requires-clause-small c =
-    omega (arith, ap (λ e. (1 + c.args.by) ^ e) c.greatest_exp_of_terms.ensures, greatest_small c.args.i c.args.by c.args.ts.now c.requires.falling, c.requires.small)
+    omega (
+      arith,
+      ap (λ e. (1 + c.args.by) ^ e) c.greatest_exp_of_terms.ensures,
+      greatest_small c.args.i c.args.by c.args.ts.now c.requires.falling,
+      c.requires.small,
+    )

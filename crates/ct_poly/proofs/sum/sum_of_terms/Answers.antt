@@ -25,16 +25,19 @@ returns-in_default-split_first c =
 pub merging-preserved-in-Greater : goal.merging-preserved-in-Greater
 merging-preserved-in-Greater c =
     let pushed : c.push.new.self.items ≡ c.merging.out.items ++ c.in-Some.a.now ∷ [] = search rules in
-    first_taken monomials int_group entry c.in-Some.ensures.cases.0 c.in-Some-split_first.ensures.cases.0 (mono_turned_back _ _ (sym c.in-Greater.ensures)) pushed c.merging.invariant
+    first_taken monomials int_group entry c.in-Some.ensures.cases.0 c.in-Some-split_first.ensures.cases.0
+    (mono_turned_back _ _ (sym c.in-Greater.ensures)) pushed c.merging.invariant
 
 pub merging-preserved-in-Less : goal.merging-preserved-in-Less
 merging-preserved-in-Less c =
     let pushed : c.push-in-Less.new.self.items ≡ c.merging.out.items ++ c.in-Some-split_first.b.now ∷ [] = search rules in
-    second_taken monomials int_group entry c.in-Some.ensures.cases.0 c.in-Some-split_first.ensures.cases.0 (sym c.in-Less.ensures) pushed c.merging.invariant
+    second_taken monomials int_group entry c.in-Some.ensures.cases.0 c.in-Some-split_first.ensures.cases.0
+    (sym c.in-Less.ensures) pushed c.merging.invariant
 
 pub sum_of_coefs-coef-requires : goal.sum_of_coefs-coef-requires
 sum_of_coefs-coef-requires c =
-    let both = has_room monomials int_group entry c.in-Some.ensures.cases.0 c.in-Some-split_first.ensures.cases.0 c.merging.invariant nat_abs abs_sum in
+    let both = has_room monomials int_group entry c.in-Some.ensures.cases.0 c.in-Some-split_first.ensures.cases.0 c.merging.invariant nat_abs abs_sum
+    in
     let small : nat_abs c.in-Some.a.now.coef + nat_abs c.in-Some-split_first.b.now.coef ≤ largest_norm = omega (arith, both, c.requires.small) in
     search rules
 

@@ -8,6 +8,7 @@ returns-then-product-gt-LARGEST_NORM c =
 
 pub returns-else-product-gt-LARGEST_NORM : goal.returns-else-product-gt-LARGEST_NORM
 returns-else-product-gt-LARGEST_NORM c =
-    let same : c.args.a * c.args.b ≡ c.saturating_mul-product.result = grind (arith, c.saturating_mul-product.ensures, c.if-product-gt-LARGEST_NORM.false) in
+    let same : c.args.a * c.args.b ≡ c.saturating_mul-product.result =
+    grind (arith, c.saturating_mul-product.ensures, c.if-product-gt-LARGEST_NORM.false) in
     let low : c.args.a * c.args.b ≤ largest_norm = grind (arith, c.saturating_mul-product.ensures, c.if-product-gt-LARGEST_NORM.false) in
     whole_fits (c.args.a * c.args.b) low ∙ ap Ok same

@@ -19,7 +19,8 @@ loop-i-preserved c =
       | then-is_summed+in_ok-push w ↦
           let items : c.if-is_summed.found.items ≡ found ++ c.loop-i.i ∷ [] = rw w.found-is w.in_ok-push.ensures.items in
           record {
-            names = rw items (summed_name _ ns c.loop-i.i found (naming_of c.info.result.now) here (sym c.is_summed.ensures ∙ w.if-is_summed.true) names);
+            names = rw items (summed_name _ ns c.loop-i.i found (naming_of c.info.result.now) here
+                (sym c.is_summed.ensures ∙ w.if-is_summed.true) names);
             known = rw items (All-append (λ k. k < length ns) found (c.loop-i.i ∷ []) known (one_known (length ns) c.loop-i.i below));
           }
       | else-is_summed w ↦ rw w.found-is (record {

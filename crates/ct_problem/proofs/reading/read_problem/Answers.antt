@@ -26,4 +26,5 @@ pub returns-clause-within : goal.returns-clause-within
 unfolding problem_of
 returns-clause-within c =
     let read : Gives (problem_of c.args.command c.args.bytes.now) c.problem.result = first_of (search rules, grind (arith, common_steps)) in
-    IfOk-weaker c.problem.result _ _ (λ p s. end_within c.args.bytes.now c.args.command (reading_of p) p.end s) (gives_spelled c.args.command c.args.bytes.now c.problem.result read)
+    IfOk-weaker c.problem.result _ _ (λ p s. end_within c.args.bytes.now c.args.command (reading_of p) p.end s)
+    (gives_spelled c.args.command c.args.bytes.now c.problem.result read)

@@ -5,10 +5,13 @@ use Rattle.ct_ore.proofs.OperatorSums.{sum_too_many, sum_too_large, sum_allowed}
 use Rattle.ct_ore.proofs.op.Op.fits_sum.Goals as goal
 
 pub term_count-requires : goal.term_count-requires
-term_count-requires c = subst (λ n. n ≤ most_terms) (sym (listed_count c.args.self.now (op_entries c.terms.result.now) c.terms.ensures)) c.within_limits.ensures.few
+term_count-requires c =
+    subst (λ n. n ≤ most_terms) (sym (listed_count c.args.self.now (op_entries c.terms.result.now) c.terms.ensures)) c.within_limits.ensures.few
 
 pub term_count-requires-2 : goal.term_count-requires-2
-term_count-requires-2 c = subst (λ n. n ≤ most_terms) (sym (listed_count c.args.other.now (op_entries c.terms-2.result.now) c.terms-2.ensures)) c.within_limits-2.ensures.few
+term_count-requires-2 c =
+    subst (λ n. n ≤ most_terms) (sym (listed_count c.args.other.now (op_entries c.terms-2.result.now) c.terms-2.ensures))
+    c.within_limits-2.ensures.few
 
 pub overflow_add-term_count : goal.overflow_add-term_count
 overflow_add-term_count c =
@@ -25,10 +28,14 @@ returns-then-term_count-gt-MOST_TERMS c =
     sym (sum_too_many _ _ (omega (arith, mine, its)))
 
 pub term_norm-requires : goal.term_norm-requires
-term_norm-requires c = subst (λ n. n ≤ largest_norm) (sym (listed_norm c.args.self.now (op_entries c.terms-3.result.now) c.terms-3.ensures)) c.within_limits.ensures.small
+term_norm-requires c =
+    subst (λ n. n ≤ largest_norm) (sym (listed_norm c.args.self.now (op_entries c.terms-3.result.now) c.terms-3.ensures))
+    c.within_limits.ensures.small
 
 pub term_norm-requires-2 : goal.term_norm-requires-2
-term_norm-requires-2 c = subst (λ n. n ≤ largest_norm) (sym (listed_norm c.args.other.now (op_entries c.terms-4.result.now) c.terms-4.ensures)) c.within_limits-2.ensures.small
+term_norm-requires-2 c =
+    subst (λ n. n ≤ largest_norm) (sym (listed_norm c.args.other.now (op_entries c.terms-4.result.now) c.terms-4.ensures))
+    c.within_limits-2.ensures.small
 
 pub overflow_add-term_norm : goal.overflow_add-term_norm
 overflow_add-term_norm c =

@@ -14,17 +14,26 @@ pub merged_terms-requires : goal.merged_terms-requires
 merged_terms-requires c =
     let mine = terms_of c.self.inside.terms.items c.self.invariant.0 c.self.view_is in
     let its = c.in_ok-opposite.ensures ∙ ap negatives c.terms.ensures ∙ sym (negative_terms c.args.other.now) in
-    subst₂ CanAdd (sym mine) (sym its) (can_add c.args.self (negative c.args.other.now) (room_negative c.args.self c.args.other.now (has_room c.args.self c.args.other.now (sym c.in_default.ensures))))
+    subst₂ CanAdd (sym mine) (sym its)
+    (can_add c.args.self (negative c.args.other.now)
+    (room_negative c.args.self c.args.other.now (has_room c.args.self c.args.other.now (sym c.in_default.ensures))))
 
 pub invariant_of-result : goal.invariant_of-result
 invariant_of-result c =
     let mine = terms_of c.self.inside.terms.items c.self.invariant.0 c.self.view_is in
     let its = c.in_ok-opposite.ensures ∙ ap negatives c.terms.ensures ∙ sym (negative_terms c.args.other.now) in
-    fits_of_terms _ c.in_ok-terms.terms.items (merged_is c.args.self (negative c.args.other.now) c.self.inside.terms.items c.in_ok-opposite.opposite.items c.in_ok-terms.terms.items mine its c.in_ok-terms.ensures) (sum_fits c.args.self (negative c.args.other.now) (room_negative c.args.self c.args.other.now (has_room c.args.self c.args.other.now (sym c.in_default.ensures))))
+    fits_of_terms _ c.in_ok-terms.terms.items
+    (merged_is c.args.self (negative c.args.other.now) c.self.inside.terms.items c.in_ok-opposite.opposite.items c.in_ok-terms.terms.items mine
+    its c.in_ok-terms.ensures)
+    (sum_fits c.args.self (negative c.args.other.now)
+    (room_negative c.args.self c.args.other.now (has_room c.args.self c.args.other.now (sym c.in_default.ensures))))
 
 pub returns : goal.returns
 unfolding checked_difference difference_of_operators
 returns c =
     let mine = terms_of c.self.inside.terms.items c.self.invariant.0 c.self.view_is in
     let its = c.in_ok-opposite.ensures ∙ ap negatives c.terms.ensures ∙ sym (negative_terms c.args.other.now) in
-    verdict_fits _ _ _ (sym c.in_default.ensures) (sym (value_of_terms c.in_ok-terms.terms.items (merged_is c.args.self (negative c.args.other.now) c.self.inside.terms.items c.in_ok-opposite.opposite.items c.in_ok-terms.terms.items mine its c.in_ok-terms.ensures)))
+    verdict_fits _ _ _ (sym c.in_default.ensures)
+    (sym (value_of_terms c.in_ok-terms.terms.items
+    (merged_is c.args.self (negative c.args.other.now) c.self.inside.terms.items c.in_ok-opposite.opposite.items c.in_ok-terms.terms.items mine
+    its c.in_ok-terms.ensures)))

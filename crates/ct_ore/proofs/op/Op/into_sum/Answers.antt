@@ -20,11 +20,16 @@ pub invariant_of-result : goal.invariant_of-result
 invariant_of-result c =
     let mine = terms_of c.self.inside.terms.items c.self.invariant.0 c.self.view_is in
     let its = terms_of c.other.inside.terms.items c.other.invariant.0 c.other.view_is in
-    fits_of_terms _ c.in_ok-terms.terms.items (merged_is c.args.self c.args.other c.self.inside.terms.items c.other.inside.terms.items c.in_ok-terms.terms.items mine its c.in_ok-terms.ensures) (sum_fits c.args.self c.args.other (has_room c.args.self c.args.other (sym c.in_default.ensures)))
+    fits_of_terms _ c.in_ok-terms.terms.items
+    (merged_is c.args.self c.args.other c.self.inside.terms.items c.other.inside.terms.items c.in_ok-terms.terms.items mine its
+    c.in_ok-terms.ensures) (sum_fits c.args.self c.args.other (has_room c.args.self c.args.other (sym c.in_default.ensures)))
 
 pub returns : goal.returns
 unfolding checked_sum
 returns c =
     let mine = terms_of c.self.inside.terms.items c.self.invariant.0 c.self.view_is in
     let its = terms_of c.other.inside.terms.items c.other.invariant.0 c.other.view_is in
-    verdict_fits _ _ _ (sym c.in_default.ensures) (sym (value_of_terms c.in_ok-terms.terms.items (merged_is c.args.self c.args.other c.self.inside.terms.items c.other.inside.terms.items c.in_ok-terms.terms.items mine its c.in_ok-terms.ensures)))
+    verdict_fits _ _ _ (sym c.in_default.ensures)
+    (sym (value_of_terms c.in_ok-terms.terms.items
+    (merged_is c.args.self c.args.other c.self.inside.terms.items c.other.inside.terms.items c.in_ok-terms.terms.items mine its
+    c.in_ok-terms.ensures)))

@@ -11,10 +11,12 @@ use Rattle.ct_ore.proofs.ProductRules.{zero_left, zero_right, none_fits, can_mul
 use Rattle.ct_ore.proofs.op.Op.mul.Goals as goal
 
 pub returns-then-is_zero : goal.returns-then-is_zero
-returns-then-is_zero c = zero_left (actions_of c.args.algebra.now) c.args.self.now c.args.other.now c.zero.result (c.is_zero.ensures.0 c.if-is_zero.true) c.zero.ensures
+returns-then-is_zero c = zero_left (actions_of c.args.algebra.now) c.args.self.now c.args.other.now c.zero.result
+    (c.is_zero.ensures.0 c.if-is_zero.true) c.zero.ensures
 
 pub returns-then-is_zero-2 : goal.returns-then-is_zero-2
-returns-then-is_zero-2 c = zero_right (actions_of c.args.algebra.now) c.args.self.now c.args.other.now c.zero-then-is_zero-2.result (c.is_zero-2.ensures.0 c.if-is_zero-2.true) c.zero-then-is_zero-2.ensures
+returns-then-is_zero-2 c = zero_right (actions_of c.args.algebra.now) c.args.self.now c.args.other.now c.zero-then-is_zero-2.result
+    (c.is_zero-2.ensures.0 c.if-is_zero-2.true) c.zero-then-is_zero-2.ensures
 
 pub product_overflow-requires : goal.product_overflow-requires
 product_overflow-requires c =
@@ -27,21 +29,43 @@ product_overflow-requires c =
 
 pub returns-in-Some : goal.returns-in-Some
 returns-in-Some c =
-    answers_kind (actions_of c.args.algebra.now) c.args.self.now c.args.other.now c.in-Some.kind (c.in-Some.ensures c.args.self.now c.args.other.now c.terms.ensures c.terms-2.ensures (subst (IsPartsOf c.args.other.now) (sym c.as_slice.ensures.value) c.in_ok-its.ensures))
+    answers_kind (actions_of c.args.algebra.now) c.args.self.now c.args.other.now c.in-Some.kind
+    (c.in-Some.ensures c.args.self.now c.args.other.now c.terms.ensures c.terms-2.ensures
+    (subst (IsPartsOf c.args.other.now) (sym c.as_slice.ensures.value) c.in_ok-its.ensures))
 
 pub product_by_halves-requires : goal.product_by_halves-requires
 product_by_halves-requires c =
-    let none : None ≡ product_overflow (actions_of c.args.algebra.now) c.args.self.now c.args.other.now = c.in-None.ensures c.args.self.now c.args.other.now c.terms.ensures c.terms-2.ensures (subst (IsPartsOf c.args.other.now) (sym c.as_slice.ensures.value) c.in_ok-its.ensures) in
-    let fits : FitsProduct (actions_of c.args.algebra.now) c.args.self.now c.args.other.now = none_fits (actions_of c.args.algebra.now) c.args.self.now c.args.other.now (told_some c.args.self.now c.is_zero.result c.is_zero.ensures.1 c.if-is_zero.false) (told_some c.args.other.now c.is_zero-2.result c.is_zero-2.ensures.1 c.if-is_zero-2.false) none in
-    subst (λ es. CanMultiply (actions_of c.args.algebra.now) es c.as_slice-in-None.result.now) (sym c.terms-in-None.ensures) (can_multiply (actions_of c.args.algebra.now) c.args.self.now c.args.other.now c.as_slice-in-None.result.now (c.as_slice-in-None.ensures.value ∙ c.in_ok-its.ensures.list) fits)
+    let none : None ≡ product_overflow (actions_of c.args.algebra.now) c.args.self.now c.args.other.now =
+    c.in-None.ensures c.args.self.now c.args.other.now c.terms.ensures c.terms-2.ensures
+    (subst (IsPartsOf c.args.other.now) (sym c.as_slice.ensures.value) c.in_ok-its.ensures) in
+    let fits : FitsProduct (actions_of c.args.algebra.now) c.args.self.now c.args.other.now =
+    none_fits (actions_of c.args.algebra.now) c.args.self.now c.args.other.now
+    (told_some c.args.self.now c.is_zero.result c.is_zero.ensures.1 c.if-is_zero.false)
+    (told_some c.args.other.now c.is_zero-2.result c.is_zero-2.ensures.1 c.if-is_zero-2.false) none in
+    subst (λ es. CanMultiply (actions_of c.args.algebra.now) es c.as_slice-in-None.result.now) (sym c.terms-in-None.ensures)
+    (can_multiply (actions_of c.args.algebra.now) c.args.self.now c.args.other.now c.as_slice-in-None.result.now
+    (c.as_slice-in-None.ensures.value ∙ c.in_ok-its.ensures.list) fits)
 
 pub of_parts-requires : goal.of_parts-requires
 of_parts-requires c =
-    let none : None ≡ product_overflow (actions_of c.args.algebra.now) c.args.self.now c.args.other.now = c.in-None.ensures c.args.self.now c.args.other.now c.terms.ensures c.terms-2.ensures (subst (IsPartsOf c.args.other.now) (sym c.as_slice.ensures.value) c.in_ok-its.ensures) in
-    let fits : FitsProduct (actions_of c.args.algebra.now) c.args.self.now c.args.other.now = none_fits (actions_of c.args.algebra.now) c.args.self.now c.args.other.now (told_some c.args.self.now c.is_zero.result c.is_zero.ensures.1 c.if-is_zero.false) (told_some c.args.other.now c.is_zero-2.result c.is_zero-2.ensures.1 c.if-is_zero-2.false) none in
-    subst Fits (sym c.as_slice-in-None-2.ensures.value) (product_fits (actions_of c.args.algebra.now) c.args.self.now c.args.other.now (op_entries c.terms-in-None.result.now) c.as_slice-in-None.result.now c.in_ok-parts-in-None.parts.items c.terms-in-None.ensures (c.as_slice-in-None.ensures.value ∙ c.in_ok-its.ensures.list) c.in_ok-parts-in-None.ensures fits)
+    let none : None ≡ product_overflow (actions_of c.args.algebra.now) c.args.self.now c.args.other.now =
+    c.in-None.ensures c.args.self.now c.args.other.now c.terms.ensures c.terms-2.ensures
+    (subst (IsPartsOf c.args.other.now) (sym c.as_slice.ensures.value) c.in_ok-its.ensures) in
+    let fits : FitsProduct (actions_of c.args.algebra.now) c.args.self.now c.args.other.now =
+    none_fits (actions_of c.args.algebra.now) c.args.self.now c.args.other.now
+    (told_some c.args.self.now c.is_zero.result c.is_zero.ensures.1 c.if-is_zero.false)
+    (told_some c.args.other.now c.is_zero-2.result c.is_zero-2.ensures.1 c.if-is_zero-2.false) none in
+    subst Fits (sym c.as_slice-in-None-2.ensures.value)
+    (product_fits (actions_of c.args.algebra.now) c.args.self.now c.args.other.now
+    (op_entries c.terms-in-None.result.now) c.as_slice-in-None.result.now c.in_ok-parts-in-None.parts.items c.terms-in-None.ensures
+    (c.as_slice-in-None.ensures.value ∙ c.in_ok-its.ensures.list) c.in_ok-parts-in-None.ensures fits)
 
 pub returns : goal.returns
 returns c =
-    let none : None ≡ product_overflow (actions_of c.args.algebra.now) c.args.self.now c.args.other.now = c.in-None.ensures c.args.self.now c.args.other.now c.terms.ensures c.terms-2.ensures (subst (IsPartsOf c.args.other.now) (sym c.as_slice.ensures.value) c.in_ok-its.ensures) in
-    answers_value (actions_of c.args.algebra.now) c.args.self.now c.args.other.now c.in_ok-r-in-None.r (op_entries c.terms-in-None.result.now) c.as_slice-in-None.result.now c.in_ok-parts-in-None.parts.items c.terms-in-None.ensures (c.as_slice-in-None.ensures.value ∙ c.in_ok-its.ensures.list) c.in_ok-parts-in-None.ensures (c.in_ok-r-in-None.ensures ∙ ap sum_of_parts c.as_slice-in-None-2.ensures.value) none
+    let none : None ≡ product_overflow (actions_of c.args.algebra.now) c.args.self.now c.args.other.now =
+    c.in-None.ensures c.args.self.now c.args.other.now c.terms.ensures c.terms-2.ensures
+    (subst (IsPartsOf c.args.other.now) (sym c.as_slice.ensures.value) c.in_ok-its.ensures) in
+    answers_value (actions_of c.args.algebra.now) c.args.self.now c.args.other.now c.in_ok-r-in-None.r
+    (op_entries c.terms-in-None.result.now) c.as_slice-in-None.result.now c.in_ok-parts-in-None.parts.items c.terms-in-None.ensures
+    (c.as_slice-in-None.ensures.value ∙ c.in_ok-its.ensures.list) c.in_ok-parts-in-None.ensures
+    (c.in_ok-r-in-None.ensures ∙ ap sum_of_parts c.as_slice-in-None-2.ensures.value) none

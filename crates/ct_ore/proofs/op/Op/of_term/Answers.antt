@@ -11,12 +11,18 @@ returns-then-is_zero c =
 
 pub invariant_of-result : goal.invariant_of-result
 invariant_of-result c =
-    let some : c.args.p ≢ polys.zero = λ zero. let told : IsTrue c.is_zero.result = c.is_zero.ensures.1 zero in let no : c.is_zero.result ≡ false = c.if-is_zero.false in grind (arith, common_steps) in
+    let some : c.args.p ≢ polys.zero = λ zero. let told : IsTrue c.is_zero.result = c.is_zero.ensures.1 zero in
+    let no : c.is_zero.result ≡ false = c.if-is_zero.false in grind (arith, common_steps) in
     let pushed : c.push.new.self.items ≡ record { mono = c.args.m.now; coef = c.args.p } ∷ [] = search rules in
-    fits_of_terms (term_of c.args.m.now c.args.p) c.push.new.self.items (ap op_entries pushed ∙ sym (terms-term_of c.args.m.now c.args.p some)) (term_fits c.args.m.now c.args.p some c.within_limits.ensures.few c.within_limits.ensures.small)
+    fits_of_terms (term_of c.args.m.now c.args.p) c.push.new.self.items (ap op_entries pushed ∙ sym (terms-term_of c.args.m.now c.args.p some))
+    (term_fits c.args.m.now c.args.p some c.within_limits.ensures.few c.within_limits.ensures.small)
 
 pub returns : goal.returns
 returns c =
-    let some : c.args.p ≢ polys.zero = λ zero. let told : IsTrue c.is_zero.result = c.is_zero.ensures.1 zero in let no : c.is_zero.result ≡ false = c.if-is_zero.false in grind (arith, common_steps) in
+    let some : c.args.p ≢ polys.zero = λ zero. let told : IsTrue c.is_zero.result = c.is_zero.ensures.1 zero in
+    let no : c.is_zero.result ≡ false = c.if-is_zero.false in grind (arith, common_steps) in
     let pushed : c.push.new.self.items ≡ record { mono = c.args.m.now; coef = c.args.p } ∷ [] = search rules in
-    record { value = value_of_terms {p = term_of c.args.m.now c.args.p} c.push.new.self.items (ap op_entries pushed ∙ sym (terms-term_of c.args.m.now c.args.p some)) }
+    record {
+      value = value_of_terms {p = term_of c.args.m.now c.args.p} c.push.new.self.items
+          (ap op_entries pushed ∙ sym (terms-term_of c.args.m.now c.args.p some));
+    }

@@ -13,8 +13,15 @@ terms_over_whole-requires-clause-divides c = subst (DividesTerms c.args.divisor)
 
 pub of_terms-requires : goal.of_terms-requires
 of_terms-requires c =
-    let fits = fits_of_terms (over_whole c.args.divisor c.args.self) c.in_ok-terms.terms.items (over_listed c.args.divisor c.args.self c.terms.result.now c.in_ok-terms.terms.items c.requires.divides c.terms.ensures c.in_ok-terms.ensures) (over_fits c.args.divisor c.args.self c.requires.divides c.within_limits.ensures.few c.within_limits.ensures.small) in
+    let fits = fits_of_terms (over_whole c.args.divisor c.args.self) c.in_ok-terms.terms.items
+    (over_listed c.args.divisor c.args.self c.terms.result.now c.in_ok-terms.terms.items c.requires.divides c.terms.ensures
+    c.in_ok-terms.ensures) (over_fits c.args.divisor c.args.self c.requires.divides c.within_limits.ensures.few c.within_limits.ensures.small)
+    in
     record { falling = fits.0; few = fits.1; small = fits.2 }
 
 pub returns : goal.returns
-returns c = record { value = c.of_terms.ensures ∙ value_of_terms c.in_ok-terms.terms.items (over_listed c.args.divisor c.args.self c.terms.result.now c.in_ok-terms.terms.items c.requires.divides c.terms.ensures c.in_ok-terms.ensures) }
+returns c = record {
+  value = c.of_terms.ensures
+      ∙ value_of_terms c.in_ok-terms.terms.items
+      (over_listed c.args.divisor c.args.self c.terms.result.now c.in_ok-terms.terms.items c.requires.divides c.terms.ensures c.in_ok-terms.ensures);
+}

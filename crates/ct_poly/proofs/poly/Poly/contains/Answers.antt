@@ -5,5 +5,6 @@ use Rattle.ct_poly.proofs.poly.Poly.contains.Goals as goal
 
 pub returns : goal.returns
 returns c =
-    subst₂ (λ k es. (c.some_term_has.result ≡ false) ↔ EachTerm (λ m d. exp m k ≡ 0) es) (sym (place-name_with c.args.i c.requires)) (ap entries c.as_slice.ensures.value ∙ terms_of c.self.inside.terms.items c.self.invariant.0 c.self.view_is)
+    subst₂ (λ k es. (c.some_term_has.result ≡ false) ↔ EachTerm (λ m d. exp m k ≡ 0) es) (sym (place-name_with c.args.i c.requires))
+    (ap entries c.as_slice.ensures.value ∙ terms_of c.self.inside.terms.items c.self.invariant.0 c.self.view_is)
     c.some_term_has.ensures

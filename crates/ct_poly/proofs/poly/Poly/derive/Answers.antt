@@ -16,4 +16,5 @@ derivative_of_terms-requires-clause-low c =
 pub returns : goal.returns
 returns c =
     let mine = kept c.as_slice-list.result.now c.self.inside.terms.items c.as_slice-list.ensures.value c.self.invariant c.self.view_is in
-    derivative_answers c.args.i c.requires c.as_slice-list.result.now mine c.in_ok-terms.terms.items c.in_ok-terms.ensures (omega (arith, c.derivative_size_of_terms.ensures))
+    derivative_answers c.args.i c.requires c.as_slice-list.result.now mine c.in_ok-terms.terms.items c.in_ok-terms.ensures
+    (omega (arith, c.derivative_size_of_terms.ensures))

@@ -29,8 +29,11 @@ pub returns : goal.returns
 returns c =
     let mine = list_of c.terms-dividend.result.now c.terms-dividend.ensures c.within_limits.ensures.few c.within_limits.ensures.small in
     let its = list_of c.terms-divisor.result.now c.terms-divisor.ensures c.within_limits-2.ensures.few c.within_limits-2.ensures.small in
-    let list : IsListOf (poly_of_terms c.in-Some.found.items) (length c.in-Some.found.items) (size_of c.in-Some.found.items) c.in_ok-terms.terms.items =
+    let list : IsListOf (poly_of_terms c.in-Some.found.items) (length c.in-Some.found.items)
+    (size_of c.in-Some.found.items) c.in_ok-terms.terms.items =
     subst (λ ts. IsListOf (poly_of_terms ts) (length ts) (size_of ts) c.in_ok-terms.terms.items) c.as_slice.ensures.value c.in_ok-terms.ensures in
-    let found : IsQuotient (poly_of_terms c.terms-dividend.result.now) (length c.terms-dividend.result.now) (size_of c.terms-dividend.result.now) c.terms-divisor.result.now c.in-Some.found.items =
-    subst (λ o. IfSome o (λ q. IsQuotient (poly_of_terms c.terms-dividend.result.now) (length c.terms-dividend.result.now) (size_of c.terms-dividend.result.now) c.terms-divisor.result.now q.items)) c.in-Some.is c.in_ok-found.ensures in
+    let found : IsQuotient (poly_of_terms c.terms-dividend.result.now) (length c.terms-dividend.result.now)
+    (size_of c.terms-dividend.result.now) c.terms-divisor.result.now c.in-Some.found.items =
+    subst (λ o. IfSome o (λ q. IsQuotient (poly_of_terms c.terms-dividend.result.now) (length c.terms-dividend.result.now)
+    (size_of c.terms-dividend.result.now) c.terms-divisor.result.now q.items)) c.in-Some.is c.in_ok-found.ensures in
     cells_answer found list mine its ∙ ap (λ q. Ok (Some q)) (sym (poly_is c.in_ok-terms.terms.items list c.of_terms.ensures))

@@ -6,7 +6,8 @@ use Rattle.ct_poly.proofs.poly.Poly.primitive_form.Goals as goal
 pub divided-requires : goal.divided-requires
 divided-requires c =
     let fits : FitsSigned w128 c.signed_content.result = search rules in
-    subst₂ (λ m d. EachTerm (TermDivides m d) c.args.self.now.terms) (sym c.one.ensures) (sym (to_z-of_z w128 _ fits ∙ c.signed_content.ensures)) (form_goes c.args.self.now)
+    subst₂ (λ m d. EachTerm (TermDivides m d) c.args.self.now.terms) (sym c.one.ensures) (sym (to_z-of_z w128 _ fits ∙ c.signed_content.ensures))
+    (form_goes c.args.self.now)
 
 pub returns : goal.returns
 unfolding primitive_form

@@ -13,4 +13,5 @@ returns-in-Ok-clause-divides c = some_quotient c.args.self.now c.args.by.now c.i
 pub returns-in-Err-Overflow-clause-value : goal.returns-in-Err-Overflow-clause-value
 unfolding quotient
 returns-in-Err-Overflow-clause-value c =
-    sym (ap value_or_none (subst (λ e. Answers (checked_quotient c.args.self.now c.args.by.now) (Err e)) c.in-Err-Overflow.field-0-is c.in-Err-Overflow.ensures))
+    sym (ap value_or_none
+    (subst (λ e. Answers (checked_quotient c.args.self.now c.args.by.now) (Err e)) c.in-Err-Overflow.field-0-is c.in-Err-Overflow.ensures))

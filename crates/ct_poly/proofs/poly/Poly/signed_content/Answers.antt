@@ -6,4 +6,5 @@ pub returns : goal.returns
 unfolding signed_content is_negative
 returns c =
     let fits : FitsSigned w128 c.signed_number.result = search rules in
-    to_z-of_z w128 _ fits ∙ c.signed_number.ensures ∙ ap₂ signed (c.is_first_negative.ensures ∙ ap leads_below_zero c.terms.ensures) c.content.ensures.value
+    to_z-of_z w128 _ fits ∙ c.signed_number.ensures
+    ∙ ap₂ signed (c.is_first_negative.ensures ∙ ap leads_below_zero c.terms.ensures) c.content.ensures.value

@@ -7,8 +7,10 @@ pub divided-requires : goal.divided-requires
 unfolding common_monomial
 divided-requires c =
     let fits : FitsSigned w128 c.signed_content.result = search rules in
-    let monomial : c.common_monomial_of_terms-mono.result ≡ common_monomial c.args.self.now = c.common_monomial_of_terms-mono.ensures ∙ ap (λ es. mono (λ i. least_exp i es)) c.terms.ensures in
-    subst₂ (λ m d. EachTerm (TermDivides m d) c.args.self.now.terms) (sym monomial) (sym (to_z-of_z w128 _ fits ∙ c.signed_content.ensures)) (part_goes c.args.self.now)
+    let monomial : c.common_monomial_of_terms-mono.result ≡ common_monomial c.args.self.now =
+    c.common_monomial_of_terms-mono.ensures ∙ ap (λ es. mono (λ i. least_exp i es)) c.terms.ensures in
+    subst₂ (λ m d. EachTerm (TermDivides m d) c.args.self.now.terms) (sym monomial) (sym (to_z-of_z w128 _ fits ∙ c.signed_content.ensures))
+    (part_goes c.args.self.now)
 
 pub returns-clause-negative : goal.returns-clause-negative
 unfolding is_negative
@@ -22,5 +24,6 @@ pub returns-clause-primitive : goal.returns-clause-primitive
 unfolding primitive_part
 returns-clause-primitive c =
     let fits : FitsSigned w128 c.signed_content.result = search rules in
-    let monomial : c.common_monomial_of_terms-mono.result ≡ common_monomial c.args.self.now = unfold common_monomial in (c.common_monomial_of_terms-mono.ensures ∙ ap (λ es. mono (λ i. least_exp i es)) c.terms.ensures) in
+    let monomial : c.common_monomial_of_terms-mono.result ≡ common_monomial c.args.self.now = unfold common_monomial in
+    (c.common_monomial_of_terms-mono.ensures ∙ ap (λ es. mono (λ i. least_exp i es)) c.terms.ensures) in
     c.in_ok-primitive.ensures ∙ ap₂ (λ m d. divided m d c.args.self.now) monomial (to_z-of_z w128 _ fits ∙ c.signed_content.ensures)

@@ -12,19 +12,24 @@ pub sum_of_terms-requires-clause-small : goal.sum_of_terms-requires-clause-small
 sum_of_terms-requires-clause-small c =
     let mine = kept c.as_slice-2.result.now c.self.inside.terms.items c.as_slice-2.ensures.value c.self.invariant c.self.view_is in
     let its = kept c.as_slice.result.now c.other.inside.terms.items c.as_slice.ensures.value c.other.invariant c.other.view_is in
-    let negative = subst (IsListOf (polys.neg (poly_of_terms c.as_slice.result.now)) (length c.as_slice.result.now) (size_of c.as_slice.result.now)) (sym c.as_slice-3.ensures.value) c.in_ok-negative.ensures in
+    let negative = subst (IsListOf (polys.neg (poly_of_terms c.as_slice.result.now)) (length c.as_slice.result.now) (size_of c.as_slice.result.now))
+    (sym c.as_slice-3.ensures.value) c.in_ok-negative.ensures in
     difference_small c.as_slice-2.result.now c.as_slice.result.now mine its c.as_slice-3.result.now negative c.in_default.ensures
 
 pub invariant_of-result : goal.invariant_of-result
 invariant_of-result c =
     let mine = kept c.as_slice-2.result.now c.self.inside.terms.items c.as_slice-2.ensures.value c.self.invariant c.self.view_is in
     let its = kept c.as_slice.result.now c.other.inside.terms.items c.as_slice.ensures.value c.other.invariant c.other.view_is in
-    let negative = subst (IsListOf (polys.neg (poly_of_terms c.as_slice.result.now)) (length c.as_slice.result.now) (size_of c.as_slice.result.now)) (sym c.as_slice-3.ensures.value) c.in_ok-negative.ensures in
-    difference_is_kept c.as_slice-2.result.now c.as_slice.result.now mine its c.as_slice-3.result.now negative c.in_ok-terms.terms.items c.in_ok-terms.ensures c.in_default.ensures
+    let negative = subst (IsListOf (polys.neg (poly_of_terms c.as_slice.result.now)) (length c.as_slice.result.now) (size_of c.as_slice.result.now))
+    (sym c.as_slice-3.ensures.value) c.in_ok-negative.ensures in
+    difference_is_kept c.as_slice-2.result.now c.as_slice.result.now mine its c.as_slice-3.result.now negative c.in_ok-terms.terms.items
+    c.in_ok-terms.ensures c.in_default.ensures
 
 pub returns : goal.returns
 returns c =
     let mine = kept c.as_slice-2.result.now c.self.inside.terms.items c.as_slice-2.ensures.value c.self.invariant c.self.view_is in
     let its = kept c.as_slice.result.now c.other.inside.terms.items c.as_slice.ensures.value c.other.invariant c.other.view_is in
-    let negative = subst (IsListOf (polys.neg (poly_of_terms c.as_slice.result.now)) (length c.as_slice.result.now) (size_of c.as_slice.result.now)) (sym c.as_slice-3.ensures.value) c.in_ok-negative.ensures in
-    difference_answers c.as_slice-2.result.now c.as_slice.result.now mine its c.as_slice-3.result.now negative c.in_ok-terms.terms.items c.in_ok-terms.ensures c.in_default.ensures
+    let negative = subst (IsListOf (polys.neg (poly_of_terms c.as_slice.result.now)) (length c.as_slice.result.now) (size_of c.as_slice.result.now))
+    (sym c.as_slice-3.ensures.value) c.in_ok-negative.ensures in
+    difference_answers c.as_slice-2.result.now c.as_slice.result.now mine its c.as_slice-3.result.now negative c.in_ok-terms.terms.items
+    c.in_ok-terms.ensures c.in_default.ensures

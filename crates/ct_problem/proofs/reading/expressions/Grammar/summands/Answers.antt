@@ -8,23 +8,31 @@ loop-turn-init g c = first_of (search rules, grind (arith, common_steps))
 pub returns-in_default : goal.returns-in_default
 unfolding summands_from
 returns-in_default g c =
-    let e = one_more (λ n. summands_from c.args.self.now.names.now c.args.self.now.operators (nested c.args.self.now.names.now c.args.self.now.operators c.args.self.now.depth) n c.loop-turn.found c.loop-turn.tokens) _ c.loop-turn._turn c.loop-turn-test.true c.loop-turn.invariant in
+    let e = one_more (λ n. summands_from c.args.self.now.names.now c.args.self.now.operators
+    (nested c.args.self.now.names.now c.args.self.now.operators c.args.self.now.depth) n c.loop-turn.found c.loop-turn.tokens) _
+    c.loop-turn._turn c.loop-turn-test.true c.loop-turn.invariant in
     first_of (search rules, grind (arith, common_steps))
 
 pub returns-in_err-expr : goal.returns-in_err-expr
 unfolding summands_from
 returns-in_err-expr g c =
-    let e = one_more (λ n. summands_from c.args.self.now.names.now c.args.self.now.operators (nested c.args.self.now.names.now c.args.self.now.operators c.args.self.now.depth) n c.loop-turn.found c.loop-turn.tokens) _ c.loop-turn._turn c.loop-turn-test.true c.loop-turn.invariant in
+    let e = one_more (λ n. summands_from c.args.self.now.names.now c.args.self.now.operators
+    (nested c.args.self.now.names.now c.args.self.now.operators c.args.self.now.depth) n c.loop-turn.found c.loop-turn.tokens) _
+    c.loop-turn._turn c.loop-turn-test.true c.loop-turn.invariant in
     first_of (search rules, grind (arith, common_steps))
 
 pub loop-turn-preserved : goal.loop-turn-preserved
 unfolding summands_from
 loop-turn-preserved g c =
-    let e = one_more (λ n. summands_from c.args.self.now.names.now c.args.self.now.operators (nested c.args.self.now.names.now c.args.self.now.operators c.args.self.now.depth) n c.loop-turn.found c.loop-turn.tokens) _ c.loop-turn._turn c.loop-turn-test.true c.loop-turn.invariant in
+    let e = one_more (λ n. summands_from c.args.self.now.names.now c.args.self.now.operators
+    (nested c.args.self.now.names.now c.args.self.now.operators c.args.self.now.depth) n c.loop-turn.found c.loop-turn.tokens) _
+    c.loop-turn._turn c.loop-turn-test.true c.loop-turn.invariant in
     first_of (search rules, grind (arith, common_steps))
 
 pub returns : goal.returns
 unfolding summands_from
 returns g c =
-    let e = no_more (λ n. summands_from c.args.self.now.names.now c.args.self.now.operators (nested c.args.self.now.names.now c.args.self.now.operators c.args.self.now.depth) n c.loop-turn.found c.loop-turn.tokens) _ c.loop-turn._turn c.loop-turn-test.false c.loop-turn.invariant in
+    let e = no_more (λ n. summands_from c.args.self.now.names.now c.args.self.now.operators
+    (nested c.args.self.now.names.now c.args.self.now.operators c.args.self.now.depth) n c.loop-turn.found c.loop-turn.tokens) _
+    c.loop-turn._turn c.loop-turn-test.false c.loop-turn.invariant in
     first_of (search rules, grind (arith, common_steps))
