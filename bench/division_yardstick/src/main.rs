@@ -1,8 +1,8 @@
 //! Products and exact divisions of polynomials and sums of fractions in plain Rust, with the same words as
 //! `bench_division`: terms in falling order, products by halves that are merged, divisions in a box of cells where that is
-//! small enough. In place of `divide`, `merging` merges the rest with a multiple of the divisor in each step, and `copying`
-//! copies the rest and makes the multiple as a list first. A sum is cleared by the other denominator, and each factor is
-//! divided out where it goes.
+//! small enough. In place of `multiply`, `cells` makes a product in cells too. In place of `divide`, `merging` merges the
+//! rest with a multiple of the divisor in each step, and `copying` copies the rest and makes the multiple as a list first.
+//! A sum is cleared by the other denominator, and each factor is divided out where it goes.
 use std::cmp::Ordering;
 
 /// How a division is done.
@@ -215,6 +215,20 @@ fn divide_in_cells(p: &[Term], f: &[Term]) -> Option<Poly> {
     Some(quotient)
 }
 
+/// A product in one table of cells, which is read off and sorted, where the box of its monomials is small enough.
+fn product_in_cells(p: &[Term], q: &[Term]) -> Option<Poly> {
+    let whole = times(&tops(p), &tops(q));
+    let mut cells = vec![0; cells_below(&whole, p.len() * q.len())?];
+    let row = spots(&whole, q);
+    for t in p {
+        add_multiple(&mut cells, place(&whole, &t.mono), t.coef, &row);
+    }
+    let filled = cells.iter().enumerate().filter(|(_, c)| **c != 0);
+    let mut out: Poly = filled.map(|(at, c)| Term { mono: mono_at(&whole, at), coef: *c }).collect();
+    out.sort_unstable_by(|t, u| compare(&u.mono, &t.mono));
+    Some(out)
+}
+
 /// The leading term of the rest over that of the divisor.
 fn next_term(rest: &[Term], f: &[Term]) -> Option<Term> {
     let top = rest.first()?;
@@ -286,17 +300,46 @@ fn power(base: &[Term], n: u64) -> Poly {
     (0..n).fold(vec![Term { mono: [0; 6], coef: 1 }], |so_far, _| product(&so_far, base))
 }
 
+fn next(state: u64) -> u64 {
+    state.wrapping_mul(6364136223846793005).wrapping_add(1442695040888963407)
+}
+
+fn below(state: u64, bound: u64) -> u64 {
+    (state >> 11) % bound
+}
+
+/// The sum of terms that are drawn from a seed on, as `bench_division` draws them.
+fn drawn(terms: u64, coefs: u64, names: u64, bound: u64, seed: u64) -> Poly {
+    let mut state = seed;
+    (0..terms).fold(Poly::new(), |so_far, _| {
+        let mono = std::array::from_fn(|i| {
+            if i < 3 {
+                state = next(state);
+            }
+            if (i as u64) < names { below(state, bound) as u16 } else { 0 }
+        });
+        state = next(state);
+        sum(&so_far, &[Term { mono, coef: i128::from(below(state, coefs) + 1) }])
+    })
+}
+
 fn main() {
     let words: Vec<String> = std::env::args().skip(1).collect();
     let number = |i: usize, default: u64| words.get(i).and_then(|w| w.parse().ok()).unwrap_or(default);
     let mode = words.first().map_or("divide", |w| w.as_str());
-    let p = power(&form(1, 1, 1), number(1, 3));
-    let q = power(&form(1, 2, 3), number(2, 2));
+    let (p, q) = match number(4, 0) {
+        0 => (power(&form(1, 1, 1), number(1, 3)), power(&form(1, 2, 3), number(2, 2))),
+        names => {
+            let draw = |seed| drawn(number(1, 3), number(2, 2), names, number(5, 2), seed);
+            (draw(1), draw(2))
+        }
+    };
     let whole = product(&p, &q);
     let mut found = None;
     for _ in 0..number(3, 1) {
         found = match mode {
             "multiply" => Some(product(&p, &q)),
+            "cells" => Some(product_in_cells(&p, &q).unwrap_or_else(|| product(&p, &q))),
             "sum" => Some(fraction_sum(&p, &form(1, 1, 2), &q, &form(2, 1, 1))),
             "copying" => divide(&whole, &q, Way::Copying),
             "merging" => divide(&whole, &q, Way::Merging),

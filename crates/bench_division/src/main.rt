@@ -2,13 +2,16 @@
 //!
 //! Without words it divides one small product and prints what it found. `multiply D E ROUNDS` multiplies the power
 //! D of x + y + z + 1 by the power E of x + 2y + 3z + 1, ROUNDS times; `divide D E ROUNDS` divides their product by the
-//! second; `sum D E ROUNDS` adds the first over x + y + 2z + 1 and the second over 2x + y + z + 1. The line that it
+//! second; `sum D E ROUNDS` adds the first over x + y + 2z + 1 and the second over 2x + y + z + 1. After `multiply` or
+//! `divide`, the words TERMS COEFS ROUNDS NAMES BOUND are for two polynomials that are drawn (`random`). The line that it
 //! prints has the number of terms and the norm of what it found, so that no work is left out.
 #![tactic(auto)]
 
 mod powers;
+mod random;
 
 use crate::powers::{form, power};
+use crate::random::{Shape, drawn};
 use ct_frac::Frac;
 use ct_poly::{Fault, Poly};
 use std::alloc::Global;
@@ -29,7 +32,14 @@ fn main(rt: HostRuntime) -> io::Result<()> {
     let first = number(words.next(), 3);
     let second = number(words.next(), 2);
     let rounds = number(words.next(), 1);
-    match measured(alloc, work, first, second, rounds) {
+    let names = number(words.next(), 0);
+    let shape = Shape {
+        terms: first,
+        coefs: second,
+        names,
+        bound: number(words.next(), 2),
+    };
+    match measured(alloc, work, shape, rounds) {
         Ok(Some(found)) => println!(rt; "{} terms, norm {}", found.terms().len(), found.norm()),
         Ok(None) => println!(rt; "no quotient"),
         Err(_) => println!(rt; "an overflow, or no memory"),
@@ -54,20 +64,29 @@ fn number(word: Option<String>, default: u64) -> u64 {
     }
 }
 
-/// The result for the powers of both forms, computed in each of the rounds.
-fn measured(
+/// The result for both polynomials, computed in each of the rounds.
+fn measured(alloc: Global, work: Work, shape: Shape, rounds: u64) -> Result<Option<Poly>, Fault> {
+    if shape.names > 0 {
+        let p = drawn(alloc, shape, 1)?;
+        let q = drawn(alloc, shape, 2)?;
+        return repeated(alloc, work, &p, &q, rounds);
+    }
+    let p = power(alloc, &form(alloc, 1, 1, 1)?, shape.terms)?;
+    let q = power(alloc, &form(alloc, 1, 2, 3)?, shape.coefs)?;
+    repeated(alloc, work, &p, &q, rounds)
+}
+
+fn repeated(
     alloc: Global,
     work: Work,
-    first: u64,
-    second: u64,
+    p: &Poly,
+    q: &Poly,
     rounds: u64,
 ) -> Result<Option<Poly>, Fault> {
-    let p = power(alloc, &form(alloc, 1, 1, 1)?, first)?;
-    let q = power(alloc, &form(alloc, 1, 2, 3)?, second)?;
     match work {
-        Work::Multiply => products(alloc, &p, &q, rounds),
-        Work::Divide => quotients(alloc, &p, &q, rounds),
-        Work::Sum => sums(alloc, &p, &q, rounds),
+        Work::Multiply => products(alloc, p, q, rounds),
+        Work::Divide => quotients(alloc, p, q, rounds),
+        Work::Sum => sums(alloc, p, q, rounds),
     }
 }
 
