@@ -22,7 +22,7 @@ module _ (a : Name → Action) (t : Action) (s : Summand) (is : t ≡ a s.name) 
   unfolding checked_denominator
   denominator_for =
       subst (λ t. Answers (by_action t (shift_denominator s) (checked_times s.denominator s.denominator) (checked_times s.denominator s.denominator))
-          r) is
+      r) is
 
   pub coefficient_for :
       Answers (by_action t (checked_shifted s.name 1 s.denominator) (checked_derived s.name s.denominator) (Ok polys.zero)) r →

@@ -22,9 +22,10 @@ second_pass false b pass = cc
 lacks_each : (j : Name) (es : List (Mono × ℤ)) → Decides (each_passes (λ (e : Mono × ℤ). lacks j e.0) es) (EachTerm (λ m c. exp m (place j) ≡ 0) es)
 lacks_each j [] = (λ _. tt, λ _. refl)
 lacks_each j (e ∷ es) =
-    let rest = lacks_each j es in
-    (λ pass. (eqb-true (exp e.0 (place j)) 0 (first_pass _ _ pass), rest.0 (second_pass _ _ pass)),
-        λ free. both_pass _ _ (eq-eqb (exp e.0 (place j)) 0 free.0) (rest.1 free.1))
+    let rest = lacks_each j es in (
+      λ pass. (eqb-true (exp e.0 (place j)) 0 (first_pass _ _ pass), rest.0 (second_pass _ _ pass)),
+      λ free. both_pass _ _ (eq-eqb (exp e.0 (place j)) 0 free.0) (rest.1 free.1),
+    )
 
 pub polynomial_lacks_decides : (j : Name) (p : Polynomial) → Decides (polynomial_lacks j p) (IsFreeOf j p)
 polynomial_lacks_decides j p = lacks_each j p.terms
@@ -53,7 +54,7 @@ module _ (m : Mono) (c : Polynomial) (p : Part) (ps rest : List Part) (whole : r
   unfolding named
   coefficient_found r told found =
       not_named (λ pass. let free = told.1 ((polynomial_lacks_decides (name_with p.name) c).0 (second_pass _ _ pass)) in
-          true_false (sym found ∙ free))
+      true_false (sym found ∙ free))
     where
       true_false : true ≡ false → ⊥
       true_false never = cc

@@ -85,7 +85,7 @@ pub denominator_made :
     test_of (places.Denominator p.name) (Ok (not r)) ≡ denominator_test (summand_of p)
 denominator_made p r small told =
     ap₂ (λ k b. test_of (places.Denominator k) (Ok (not b))) (sym (place-name_with p.name small))
-        (decided r _ told (polynomial_zero_decides p.denominator))
+    (decided r _ told (polynomial_zero_decides p.denominator))
 
 pub part_made :
     (a : Name → Action) (h : Polynomial) (p : Part) → IsSmall p →

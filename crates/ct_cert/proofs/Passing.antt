@@ -32,7 +32,7 @@ term_lacks_decides (j ∷ js) m c =
 terms_lack_decides :
     (js : List Name) (es : List (Mono × Polynomial)) →
     Decides (each_passes (λ (e : Mono × Polynomial). term_lacks js e.0 e.1) es)
-        (EachTerm (λ m c. EachName (λ j. IsWithout j m) js × IsFreeOfAll js c) es)
+    (EachTerm (λ m c. EachName (λ j. IsWithout j m) js × IsFreeOfAll js c) es)
 terms_lack_decides js [] = (λ _. tt, λ _. refl)
 terms_lack_decides js (e ∷ es) =
     let here = term_lacks_decides js e.0 e.1 in

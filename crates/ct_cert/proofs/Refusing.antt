@@ -71,7 +71,7 @@ module _ (a : Name → Action) (summed : List Name) (generators : List Operator)
   found_refuted : same_support due found ≡ false → found ≡ due → ⊥
   found_refuted failed same =
       clash _ failed (both_pass _ _ (eq-eqb _ _ (ap (λ s. s.index) same))
-          (both_pass _ _ (eq-eqb _ _ (ap (λ s. s.order) same)) (eq-eqb _ _ (ap (λ s. s.degree) same))))
+      (both_pass _ _ (eq-eqb _ _ (ap (λ s. s.order) same)) (eq-eqb _ _ (ap (λ s. s.degree) same))))
 
   telescoper_refuted : (not (operator_group.is_zero c.telescoper) && operator_lacks summed c.telescoper) ≡ false → HoldsAt places.Telescoper → ⊥
   unfolding no_operator

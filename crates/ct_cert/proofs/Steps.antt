@@ -11,7 +11,7 @@ module _ (a : Name → Action) {asked : Checked Operator} (sum more : Operator) 
       checked_differences a sum (map summand_of rest) ≡ asked → checked_differences a more (map summand_of ps) ≡ asked
   next_difference p ps rest whole value left =
       sym (ap (λ rest. checked_differences a sum (map summand_of rest)) whole
-          ∙ ap (λ r. r >>= (λ more. checked_differences a more (map summand_of ps))) value)
+      ∙ ap (λ r. r >>= (λ more. checked_differences a more (map summand_of ps))) value)
       ∙ left
 
 module _ (test : Summand → Tested (Unit {0})) {asked : Tested (Unit {0})} (p : Part) (ps rest : List Part) where

@@ -87,15 +87,15 @@ module _ (a : Name → Action) where
       (λ v. checked_multiple a s.denominator v >>=
       (λ f. checked_coefficient a s >>= (λ c. checked_multiple a c s.numerator >>= (λ g. checked_difference f g)))) r fits in
       let first = both_fit (checked_multiple a s.denominator before.value)
-              (λ f. checked_coefficient a s >>= (λ c. checked_multiple a c s.numerator >>= (λ g. checked_difference f g))) r before.rest in
+      (λ f. checked_coefficient a s >>= (λ c. checked_multiple a c s.numerator >>= (λ g. checked_difference f g))) r before.rest in
       let coefficient = both_fit (checked_coefficient a s) (λ c. checked_multiple a c s.numerator >>= (λ g. checked_difference first.value g)) r
-              first.rest in
+      first.rest in
       let second = both_fit (checked_multiple a coefficient.value s.numerator) (λ g. checked_difference first.value g) r coefficient.rest in
       ap₂ (λ p q. sum_of_operators p (negative q))
       (ap (multiple a s.denominator) (symbol_value s.name s.numerator before.value before.first)
-          ∙ multiple_value s.denominator before.value first.value first.first)
+      ∙ multiple_value s.denominator before.value first.value first.first)
       (ap (λ c. multiple a c s.numerator) (coefficient_value s coefficient.value coefficient.first)
-          ∙ multiple_value coefficient.value s.numerator second.value second.first)
+      ∙ multiple_value coefficient.value s.numerator second.value second.first)
       ∙ difference_value first.value second.value r second.rest
 
   -- ---- the right side
@@ -110,7 +110,7 @@ module _ (a : Name → Action) where
       let numerator = both_fit (checked_numerator a s) (λ n. checked_multiple a s.factor n >>= (λ p. checked_sum sum p)) r fits in
       let product = both_fit (checked_multiple a s.factor numerator.value) (λ p. checked_sum sum p) r numerator.rest in
       ap (sum_of_operators sum) (ap (multiple a s.factor) (numerator_value s numerator.value numerator.first)
-          ∙ multiple_value s.factor numerator.value product.value product.first)
+      ∙ multiple_value s.factor numerator.value product.value product.first)
       ∙ sums sum product.value r product.rest
 
   differences_value :
@@ -133,9 +133,9 @@ module _ (a : Name → Action) where
       (λ l. checked_differences a no_operator c.summands >>=
       (λ d. checked_combination a d c.cofactors generators >>= (λ r. Ok (same_operator l r)))) b fits in
       let differences = both_fit (checked_differences a no_operator c.summands)
-              (λ d. checked_combination a d c.cofactors generators >>= (λ r. Ok (same_operator left.value r))) b left.rest in
+      (λ d. checked_combination a d c.cofactors generators >>= (λ r. Ok (same_operator left.value r))) b left.rest in
       let right = both_fit (checked_combination a differences.value c.cofactors generators)
-              (λ r. Ok (same_operator left.value r)) b differences.rest in
+      (λ r. Ok (same_operator left.value r)) b differences.rest in
       let first : multiple a c.scale c.telescoper ≡ left.value = multiple_value c.scale c.telescoper left.value left.first in
       let summed = differences_value no_operator c.summands differences.value differences.first in
       let second = ap (λ p. operator_group.◌+◌ p (combination a c.cofactors generators)) (sym (zero_add operator_group _) ∙ summed)

@@ -53,7 +53,7 @@ ended_above count x least (Some h) v is e below low f =
 ended_above count x least None v is e below low f =
     ⊎_elim
     (λ (a : some_and v.pending (λ p. nat_le count p) ≡ true). let p = some_and_is v.pending (λ p. nat_le count p) a in
-        (p.0, p.1, (let q : nat_le count p.0 ≡ true = p.2 in past count x p.0 below q)))
+    (p.0, p.1, (let q : nat_le count p.0 ≡ true = p.2 in past count x p.0 below q)))
     (λ (b : some_and v.pending (λ p. some_and v.seen (λ s. nat_lt s p)) ≡ true).
     let p = some_and_is v.pending (λ p. some_and v.seen (λ s. nat_lt s p)) b in
     let s = some_and_is v.seen (λ s. nat_lt s p.0) p.2 in
@@ -110,8 +110,8 @@ refuted_once : (count next x : ℕ) (least : Option ℕ) (views : List Sight) �
     Kept count next least views → Each (λ v. has_ended count v ≡ true) views → sum_over (λ v. times x v.refuted) views ≡ 1
 refuted_once count next x least views some_one below low k e =
     let a = sum_over-same (λ v. times x v.refuted) (λ v. times x v.claims) views
-            (each_both (Fits count least) (λ v. has_ended count v ≡ true) (λ v. times x v.refuted ≡ times x v.claims) views
-            (λ v f h. all_refuted count x least v below low f h) k.fits e) in
+    (each_both (Fits count least) (λ v. has_ended count v ≡ true) (λ v. times x v.refuted ≡ times x v.claims) views
+    (λ v f h. all_refuted count x least v below low f h) k.fits e) in
     let b : sum_over (λ v. times x v.claims) views ≡ once_below x next = k.claimed (λ y. one_if (y == x)) ∙ sum_below-times x next in
     let c = claimed_past count next x least views some_one below low k e in
     let d : once_below x next ≡ 1 = is_one x next c in omega arith
@@ -124,8 +124,8 @@ refuted_not : (count next x : ℕ) (least : Option ℕ) (views : List Sight) →
     sum_over (λ v. times x v.refuted) views ≡ 0
 refuted_not count next x least views past k =
     sum_over-zero (λ v. times x v.refuted) views
-        (each_map (Fits count least) (λ v. times x v.refuted ≡ 0) views
-        (λ v f. times_none x v.refuted (each_map (λ y. y < count) (λ y. y < x) v.refuted (λ y h. omega arith) f.refuted_below)) k.fits)
+    (each_map (Fits count least) (λ v. times x v.refuted ≡ 0) views
+    (λ v f. times_none x v.refuted (each_map (λ y. y < count) (λ y. y < x) v.refuted (λ y h. omega arith) f.refuted_below)) k.fits)
 
 lt_or : (a b : ℕ) → (a < b) ⊎ (b ≤ a)
 lt_or a b = grind arith
@@ -153,15 +153,15 @@ module _ (count next : ℕ) (views : List Sight) where
       ⊎_elim (λ (h : m < count). h)
       (λ (h : count ≤ m).
       let z = sum_over-zero (has_hit m) views
-              (each_map (Fits count (Some m)) (λ v. has_hit m v ≡ 0) views (λ v f. hit_within count m (Some m) v.hit v h refl f) k.fits) in
+      (each_map (Fits count (Some m)) (λ v. has_hit m v ≡ 0) views (λ v f. hit_within count m (Some m) v.hit v h refl f) k.fits) in
       let o : 1 ≤ sum_over (has_hit m) views = k.least_hit in absurd (omega arith))
       (lt_or m count)
 
   least_once : (m : ℕ) → Kept count next (Some m) views → sum_over (has_hit m) views ≡ 1
   least_once m k =
       let a = sum_over-below (has_hit m) (λ v. times m v.claims) views
-              (each_map (Fits count (Some m)) (λ v. has_hit m v ≤ times m v.claims) views (λ v f. hit_claimed count m (Some m) v.hit v refl f) k.fits)
-              in
+      (each_map (Fits count (Some m)) (λ v. has_hit m v ≤ times m v.claims) views (λ v f. hit_claimed count m (Some m) v.hit v refl f) k.fits)
+      in
       let b : sum_over (λ v. times m v.claims) views ≡ once_below m next = k.claimed (λ y. one_if (y == m)) ∙ sum_below-times m next in
       let o : 1 ≤ sum_over (has_hit m) views = k.least_hit in
       let c : once_below m next ≤ 1 = at_most m next in omega arith

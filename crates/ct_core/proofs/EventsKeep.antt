@@ -74,7 +74,7 @@ same_hits : (least : Option ℕ) (views : List Sight) (w : ℕ) (v u : Sight) �
     IfSome least (λ m. 1 ≤ sum_over (has_hit m) views) → IfSome least (λ m. 1 ≤ sum_over (has_hit m) (set views w u))
 same_hits least views w v u at e h =
     if_some _ _ least (λ m k. let s = sum_over-set (has_hit m) views w v u at in
-        let t : has_hit m v ≡ has_hit m u = ap (λ o. one_if (some_and o (λ x. x == m))) e in omega arith) h
+    let t : has_hit m v ≡ has_hit m u = ap (λ o. one_if (some_and o (λ x. x == m))) e in omega arith) h
 
 no_hit : (Q : ℕ → Type 0) (count : ℕ) (least : Option ℕ) (v : Sight) → v.stopped ≡ false → (o : Option ℕ) →
     IfSome o (λ h. (v.pending ≡ Some h) × (h < count) × Reaches least h × (v.stopped ≡ true)) → IfSome o Q

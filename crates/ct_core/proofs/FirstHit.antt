@@ -35,7 +35,7 @@ step_knows f s t e is a k = at_view (slice_get s.views (worker_of e)) refl is
     at_test v true at is =
         let same : machine_after s (worker_of e) v e ≡ t = cc in
         subst (λ (u : Machine). Each (Known f) u.views) same
-            (each_set (Known f) s.views (worker_of e) _ (known_after f s.next s.least v e a (each_at (Known f) s.views (worker_of e) v at k)) k)
+        (each_set (Known f) s.views (worker_of e) _ (known_after f s.next s.least v e a (each_at (Known f) s.views (worker_of e) v at k)) k)
     at_test v false at is = absurd (cc)
 
     at_view : (o : Option Sight) → slice_get s.views (worker_of e) ≡ o → step_at s o e ≡ Some t → Each (Known f) t.views
@@ -99,4 +99,4 @@ pub run_first_hit : (count workers : ℕ) (es : List Event) (t : Machine) → 0 
 run_first_hit count workers es t some_one run f a all =
     subst (λ n. IsFirstHit f n t.least) (run_counts count workers es t run)
     (first_hit f t.views (run_knows f (start_of count workers) t es run a (fresh_known f workers)) t.count t.least
-        (run_decides count workers es t some_one run all))
+    (run_decides count workers es t some_one run all))

@@ -91,8 +91,15 @@ at_most : (n m : ℕ) → n ≤ m → nat_le n m ≡ true
 at_most n m h = grind (arith, nat_tests)
 
 abbrev claimed : ℕ → List ℕ → Sight
-claimed from done = record { claims = done ++ from ∷ []; refuted = done; hit = None; pending = Some from; looked = false; seen = None;
-    stopped = false }
+claimed from done = record {
+  claims = done ++ from ∷ [];
+  refuted = done;
+  hit = None;
+  pending = Some from;
+  looked = false;
+  seen = None;
+  stopped = false;
+}
 
 abbrev seen_none : ℕ → List ℕ → Sight
 seen_none from done =

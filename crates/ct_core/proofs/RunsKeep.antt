@@ -39,7 +39,7 @@ same_item xs w v u within a b =
 pub accepts : (s : Machine) (e : Event) (v v' u : Sight) (w n : ℕ) (l : Option ℕ) → w ≡ worker_of e → w < length s.views → v ≡ get_or s.views w v →
     v' ≡ get_or s.views w v' → true ≡ is_legal s.count v e
     → n ≡ next_after s.next e → l ≡ least_after s.least e → u ≡ view_after s.next s.least v' e →
-        step_of s e ≡ Some (record { count = s.count; next = n; least = l; views = set s.views w u })
+    step_of s e ≡ Some (record { count = s.count; next = n; least = l; views = set s.views w u })
 accepts s e v v' u w n l is within at at' legal n_is l_is u_is =
     let same = same_item s.views w v' v within at' at in
     let u_is' : u ≡ view_after s.next s.least v e = u_is ∙ ap (λ x. view_after s.next s.least x e) same in
@@ -92,8 +92,17 @@ start_keeps count workers = record { claimed = λ h. none h workers; fits = all 
 
     all : (n : ℕ) → Each (Fits count None) (replicate n fresh)
     all zero = tt
-    all (suc n) = (record { claims_are = refl; refuted_below = tt; looked_below = λ e. absurd (cc); hit_is = tt; seen_is = tt;
-        stopped_is = λ e. absurd (cc) }, all n)
+    all (suc n) = (
+      record {
+        claims_are = refl;
+        refuted_below = tt;
+        looked_below = λ e. absurd (cc);
+        hit_is = tt;
+        seen_is = tt;
+        stopped_is = λ e. absurd (cc);
+      },
+      all n,
+    )
 
 pub step_next : (s t : Machine) (e : Event) → step_of s e ≡ Some t → (t.next ≤ s.next + 1) × (t.count ≡ s.count) × (length t.views ≡ length s.views)
 step_next s t e is = at_view (slice_get s.views (worker_of e)) is
@@ -110,7 +119,7 @@ step_next s t e is = at_view (slice_get s.views (worker_of e)) is
     at_test v true is =
         let same : machine_after s (worker_of e) v e ≡ t = cc in
         subst (λ (u : Machine). (u.next ≤ s.next + 1) × (u.count ≡ s.count) × (length u.views ≡ length s.views)) same
-            (next_up s.next e, refl, length-set s.views (worker_of e) (view_after s.next s.least v e))
+        (next_up s.next e, refl, length-set s.views (worker_of e) (view_after s.next s.least v e))
     at_test v false is = absurd (cc)
 
     at_view : (o : Option Sight) → step_at s o e ≡ Some t → (t.next ≤ s.next + 1) × (t.count ≡ s.count) × (length t.views ≡ length s.views)
@@ -145,7 +154,7 @@ pub run_decides : (count workers : ℕ) (es : List Event) (t : Machine) → 0 < 
 run_decides count workers es t some_one run all =
     let k = run_keeps KeptBy (start_of count workers) t es (λ a b e is k. step_keeps a b e is k) run (start_keeps count workers) in
     let n = run_keeps (λ m. length m.views ≡ workers) (start_of count workers) t es (λ a b e is h. let r = (step_next a b e is).2 in r ∙ h) run
-            (length-replicate workers fresh) in
+    (length-replicate workers fresh) in
     decides t.count t.next t.views t.least (omega arith) k
-        (each_both (Fits t.count t.least) (λ v. v.stopped ≡ true) (λ v. has_ended t.count v ≡ true) t.views
-        (λ v f h. ended_once_stopped t.count v (f.stopped_is h)) k.fits all)
+    (each_both (Fits t.count t.least) (λ v. v.stopped ≡ true) (λ v. has_ended t.count v ≡ true) t.views
+    (λ v f h. ended_once_stopped t.count v (f.stopped_is h)) k.fits all)

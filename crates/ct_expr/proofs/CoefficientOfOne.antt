@@ -33,14 +33,14 @@ module _ (p : Operator) (ts : List OpTerm) (at : ℕ) (t : OpTerm) where
       let known = here below is left in
       let same : t.mono ≡ unit = (mono_eq_decides t.mono unit).0 one in
       sym (at_head monomials polys.group (t.mono, t.coef) (op_entries (drop (at + 1) ts)) known.canonical.1)
-          ∙ ap (value_at monomials polys.group (op_entries (t ∷ drop (at + 1) ts))) same ∙ known.value
+      ∙ ap (value_at monomials polys.group (op_entries (t ∷ drop (at + 1) ts))) same ∙ known.value
 
   pub one_is_later : at < length ts → t ≡ get_or ts at t → mono_eq t.mono unit ≡ false → IsLeft p (drop at ts) → IsLeft p (drop (at + 1) ts)
   one_is_later below is other left =
       let known = here below is left in
       let rest = coefficient_in (drop (at + 1) ts) in
       let none : pick monomials polys.group unit t.mono t.coef ≡ polys.zero =
-              pick-other unit t.mono t.coef (λ same. let yes = (mono_eq_decides t.mono unit).1 same in false≢true (sym other ∙ yes)) in
+      pick-other unit t.mono t.coef (λ same. let yes = (mono_eq_decides t.mono unit).1 same in false≢true (sym other ∙ yes)) in
       record {
         value = sym (ap (λ (c : Polynomial). polys.group.◌+◌ c rest) none ∙ zero_add polys.group rest) ∙ known.value;
         canonical = known.canonical.2;

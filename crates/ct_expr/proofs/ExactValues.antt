@@ -79,15 +79,15 @@ module _ (a : Name → Action) where
       let total : operation s.mine s.its ≡ s.total = told s.mine s.its s.total s.joined in
       let mine : scaled a h s.mine ≡ scaled a q v.operator =
       ap (scaled a h) (sym (multiple_is (m / p) v.operator s.mine s.first)) ∙ scaled_twice a h (m / p) v.operator
-          ∙ ap (λ n. scaled a n v.operator) cross.first in
+      ∙ ap (λ n. scaled a n v.operator) cross.first in
       let its : scaled a h s.its ≡ scaled a p w.operator =
       ap (scaled a h) (sym (multiple_is (m / q) w.operator s.its s.second)) ∙ scaled_twice a h (m / q) w.operator
-          ∙ ap (λ n. scaled a n w.operator) cross.second in
+      ∙ ap (λ n. scaled a n w.operator) cross.second in
       let all : scaled a h s.total ≡ operation (scaled a q v.operator) (scaled a p w.operator) =
       ap (scaled a h) (sym total) ∙ spread h s.mine s.its ∙ ap₂ operation mine its in
       subst (IsJoined a operation v w) s.last
       (ap (λ n. scaled a n (lowest s.total m).operator) (sym cross.whole) ∙ lowest_scaled s.total m h known.itself.some
-          ∙ ap (scaled a (lowest s.total m).whole) all)
+      ∙ ap (scaled a (lowest s.total m).whole) all)
 
   scaled-difference : (n : ℕ) (x y : Operator) → scaled a n (difference_of_operators x y) ≡ difference_of_operators (scaled a n x) (scaled a n y)
   unfolding difference_of_operators
@@ -96,7 +96,7 @@ module _ (a : Name → Action) where
       ∙ ap (sum_of_operators (scaled a n x))
       (ap (scaled a n) (negatives_are y)
       ∙ hom_neg {G = operator_group} {H = operator_group} {φ = scaled a n}
-          (record { sums = λ u v. ap (scaled a n) (sym (sums_are u v)) ∙ scaled-sum a n u v ∙ sums_are _ _ }) y
+      (record { sums = λ u v. ap (scaled a n) (sym (sums_are u v)) ∙ scaled-sum a n u v ∙ sums_are _ _ }) y
       ∙ sym (negatives_are (scaled a n y)))
 
 sum_told : (x y r : Operator) → checked_sum x y ≡ Ok r → sum_of_operators x y ≡ r
@@ -140,6 +140,6 @@ negatives_are_exact v r e =
     let same : record { operator = step.value; whole = v.whole } ≡ r = let e = step.rest in cc in
     let none_before : sum_of_operators no_operator (negative v.operator) ≡ negative v.operator =
     sums_are no_operator (negative v.operator) ∙ ap (λ z. operator_group.◌+◌ z (negative v.operator)) none_is
-        ∙ zero_add operator_group (negative v.operator) in
+    ∙ zero_add operator_group (negative v.operator) in
     subst (λ (u : Value). (u.operator ≡ negative v.operator) × (u.whole ≡ v.whole)) same
     (sym (difference_told no_operator v.operator step.value step.first) ∙ none_before, refl)

@@ -24,7 +24,7 @@ IsPlain v = (p : Polynomial) × (v ≡ term_of unit p)
 plain_is : (v : Operator) → IsPlain v → v ≡ operator_of_polynomial (polynomial_at v unit)
 plain_is v plain =
     let coefficient : polynomial_at v unit ≡ plain.0 = ap (λ (w : Operator). polynomial_at w unit) plain.1 ∙ at-term_of unit unit plain.0
-            ∙ pick-same unit unit plain.0 refl in
+    ∙ pick-same unit unit plain.0 refl in
     plain.1 ∙ ap (term_of unit) (sym coefficient)
 
 plain_zero : IsPlain no_operator
@@ -67,7 +67,7 @@ plain_list : (es : List (Mono × Polynomial)) → AllUnit es → IsPlain (operat
 plain_list [] each = subst IsPlain (sym operator_laws.sums_of_terms.of_none) plain_zero
 plain_list (e ∷ es) each =
     subst IsPlain (sym (operator_laws.sums_of_terms.of_more e es))
-        (plain_sum (term_of e.0 e.1) (operator_of es) (e.1, ap (λ m. term_of m e.1) each.0) (plain_list es each.1))
+    (plain_sum (term_of e.0 e.1) (operator_of es) (e.1, ap (λ m. term_of m e.1) each.0) (plain_list es each.1))
 
 over_units : (d : ℕ) (es : List (Mono × Polynomial)) → AllUnit es → AllUnit (map (entry_over d) es)
 over_units d [] each = tt
@@ -82,7 +82,7 @@ polynomial_units p = by (polys.is_zero p) refl
         subst AllUnit (sym (ap (λ (v : Operator). v.terms) absent ∙ terms-no_operator)) tt
     by false some =
         subst AllUnit (sym (terms-term_of unit p (λ zero. let no : true ≡ false = sym (ap polys.is_zero zero ∙ polys.zero_true) ∙ some in
-            false≢true (sym no)))) (refl, tt)
+        false≢true (sym no)))) (refl, tt)
 
 over_whole-plain : (d : ℕ) (v : Operator) → IsPlain v → IsPlain (over_whole d v)
 unfolding over_whole
@@ -109,17 +109,17 @@ checked_plus-plain : (a : Name → Action) (v w r : Value) → IsPlainValue v �
 checked_plus-plain a v w r p q e =
     let s = plus_steps a v w r e in
     subst IsPlainValue s.last
-        (lowest-plain s.total s.whole
-        (checked_sum-plain s.mine s.its s.total (checked_multiple-plain a _ v.operator s.mine p s.first)
-        (checked_multiple-plain a _ w.operator s.its q s.second) s.joined))
+    (lowest-plain s.total s.whole
+    (checked_sum-plain s.mine s.its s.total (checked_multiple-plain a _ v.operator s.mine p s.first)
+    (checked_multiple-plain a _ w.operator s.its q s.second) s.joined))
 
 checked_minus-plain : (a : Name → Action) (v w r : Value) → IsPlainValue v → IsPlainValue w → checked_minus a v w ≡ Ok r → IsPlainValue r
 checked_minus-plain a v w r p q e =
     let s = minus_steps a v w r e in
     subst IsPlainValue s.last
-        (lowest-plain s.total s.whole
-        (checked_difference-plain s.mine s.its s.total (checked_multiple-plain a _ v.operator s.mine p s.first)
-        (checked_multiple-plain a _ w.operator s.its q s.second) s.joined))
+    (lowest-plain s.total s.whole
+    (checked_difference-plain s.mine s.its s.total (checked_multiple-plain a _ v.operator s.mine p s.first)
+    (checked_multiple-plain a _ w.operator s.its q s.second) s.joined))
 
 checked_times-plain : (a : Name → Action) (v w r : Value) → IsPlainValue v → IsPlainValue w → checked_times a v w ≡ Ok r → IsPlainValue r
 checked_times-plain a v w r p q e =

@@ -20,7 +20,7 @@ pub quotient_fits : (m n : ℕ) → IsFactor m → 0 < n → n ∣ m → IsFacto
 quotient_fits m n is some divides =
     let whole : m / n * n ≡ m = div-mul_cancel n divides in
     let positive = pos_of_ne-zero (λ none. let gone : 0 * n ≡ 0 = omega arith in let zero_m : m ≡ 0 = sym whole ∙ ap (λ k. k * n) none ∙ gone in
-            omega (arith, zero_m, is.some)) in
+    omega (arith, zero_m, is.some)) in
     let low : m / n ≤ m / n * n = le-mul_of_pos_right (m / n) some in
     record { some = positive; within = omega (arith, low, whole, is.within) }
 

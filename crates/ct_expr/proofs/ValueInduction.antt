@@ -79,8 +79,8 @@ module _ {a : Name → Action} {P : Value → Type 0} {step : Expr-F Bool Bool �
       let first = both_fit (fraction_of_term a t.0).1 (λ x. joined a o (fraction_of_term a t.0).0 x >>= rest) r e in
       let second = both_fit (joined a o (fraction_of_term a t.0).0 first.value) rest r first.rest in
       terms-keep ts (Some second.value) r
-          (joined-keeps o (fraction_of_term a t.0).0 first.value second.value so (t.1 first.value first.first parts.0) second.first) parts.1
-          second.rest
+      (joined-keeps o (fraction_of_term a t.0).0 first.value second.value so (t.1 first.value first.first parts.0) second.first) parts.1
+      second.rest
 
   factors-keep : (fs : List ((x : Expr) × Claim x)) (o : Option Value) (r : Value) → SoFar o
       → all_true (map asked (map (λ x. x.0) fs)) ≡ true → product_from a o (map (fraction_of a) (map (λ x. x.0) fs)) ≡ Ok r → P r
@@ -92,7 +92,7 @@ module _ {a : Name → Action} {P : Value → Type 0} {step : Expr-F Bool Bool �
       let first = both_fit (fraction_of a f.0) (λ x. multiplied a o x >>= rest) r e in
       let second = both_fit (multiplied a o first.value) rest r first.rest in
       factors-keep fs (Some second.value) r (multiplied-keeps o first.value second.value so (f.1 first.value first.first parts.0) second.first)
-          parts.1 second.rest
+      parts.1 second.rest
 
   layer-keeps : (y : Expr-F ((x : Expr) × Claim x) ((t : Summand) × TermClaim t)) → Claim (roll-Expr (map-Expr _ _ _ _ (λ x. x.0) (λ t. t.0) y))
   unfolding fraction_of fraction_of_term value_step
@@ -119,7 +119,7 @@ module _ {a : Name → Action} {P : Value → Type 0} {step : Expr-F Bool Bool �
   layer-keeps (Expr-F.Power base n) v e all =
       let steps = both_fit (fraction_of a base.0) (λ x. power_from a one_value n x) v (sym (fold-roll-Expr _ _ _ _ _) ∙ e) in
       power-keeps one_value steps.value v n keeps.one (base.1 steps.value steps.first (sym (keeps.powers _ n) ∙ sym (fold-roll-Expr _ _ _ _ _) ∙ all))
-          steps.rest
+      steps.rest
 
   term-keeps : (y : Summand-F ((x : Expr) × Claim x) ((t : Summand) × TermClaim t)) →
       TermClaim (roll-Summand (map-Summand _ _ _ _ (λ x. x.0) (λ t. t.0) y))

@@ -124,9 +124,9 @@ shared_more f fs (g ∷ gs) some there none are = by (poly_cmp f.poly g.poly) re
     by Equal told more =
         let same : f.poly ≡ g.poly = poly_tied f.poly g.poly told in
         ap₂ (λ e w. times (power g.poly e) w) (ap (λ u. picked u f.exp (exponent_in g.poly fs)) told)
-            (shared_below f fs gs (subst (λ p. IsBelow p gs) (sym same) are.1.0))
+        (shared_below f fs gs (subst (λ p. IsBelow p gs) (sym same) are.1.0))
         ∙ ap₂ (λ p w. times (power p f.exp) w) (sym same) (sym (one_times (shared fs gs))
-            ∙ ap (λ e. times (power g.poly e) (shared fs gs)) (sym (ap (λ p. exponent_in p fs) (sym same) ∙ none)))
+        ∙ ap (λ e. times (power g.poly e) (shared fs gs)) (sym (ap (λ p. exponent_in p fs) (sym same) ∙ none)))
 
 shared_is : (fs gs : List Factor) → AreFactors fs → AreFactors gs → EachIsIn fs gs → shared fs gs ≡ product_of_factors fs
 shared_is [] gs are its each = shared_none gs
@@ -153,7 +153,7 @@ cleared_ok w d n is its divides answer =
     let whole : number (pos d.whole) ≡ times (number (pos q)) (number (pos w.den.whole)) =
     ap (λ k. number (pos k)) (sym (div-mul_cancel w.den.whole divides.whole)) ∙ number-product q w.den.whole in
     ap (λ m. times m (times (number (pos w.den.whole)) (product_of_factors w.den.factors)))
-        (sym second ∙ ap (λ m. times m (missing w.den.factors d.factors)) (sym first))
+    (sym second ∙ ap (λ m. times m (missing w.den.factors d.factors)) (sym first))
     ∙ sorted w.numerator (number (pos q)) (missing w.den.factors d.factors) (number (pos w.den.whole)) (product_of_factors w.den.factors)
     ∙ ap₂ (λ a b. times w.numerator (times a b)) (sym whole) (sym (factors_whole w.den.factors d.factors is.factors its.factors divides.factors))
   where

@@ -39,7 +39,7 @@ pub wider_ok : (d e w : Denominator) → checked_wider d e ≡ Ok w → IsDenomi
 unfolding checked_wider
 wider_ok d e w answer is it =
     let both = both_fit (checked_whole (least_common d.whole e.whole))
-            (λ whole. Ok (record { whole = whole; factors = all_greatest d.factors e.factors })) w answer in
+    (λ whole. Ok (record { whole = whole; factors = all_greatest d.factors e.factors })) w answer in
     subst (Wider d e) (same_ok (record { whole = both.value; factors = all_greatest d.factors e.factors }) w both.rest)
     (wider_is d e both.value both.first is it)
 
@@ -60,7 +60,7 @@ pub common_divided : (d : Denominator) (ws : List Written) (e : Denominator) →
     Common d ws e
 common_divided d [] e answer is each =
     subst (Common d []) (same_ok d e answer)
-        (record { den = is; first = record { whole = dvd_refl d.whole; factors = EachIsIn-itself d.factors is.factors }; each = tt })
+    (record { den = is; first = record { whole = dvd_refl d.whole; factors = EachIsIn-itself d.factors is.factors }; each = tt })
 common_divided d (w ∷ ws) e answer is each =
     let both = both_fit (checked_wider d w.den) (λ c. checked_common c ws) e answer in
     let wide = wider_ok d w.den both.value both.first is each.0.den in

@@ -76,7 +76,7 @@ module _ (i : Name) where
       let part = both_fit (checked_times often.value slope.value) _ r often.rest in
       ap₂ times
       (ap₂ times (times_ok n (number (pos f.exp)) often.value often.first) (derived_ok f.poly slope.value slope.first)
-          ∙ times_ok often.value slope.value part.value part.first)
+      ∙ times_ok often.value slope.value part.value part.first)
       (sym (one_times (once others)) ∙ once_ok polys.one others rest.value rest.first)
       ∙ times_ok part.value rest.value r part.rest
 
@@ -157,7 +157,7 @@ module _ (i : Name) where
   -- the derivative of the denominator, times the product of the factors with the name
   den_slope :
       (d : Denominator) → times (derived i (multiplied_out d)) (once (with_name i d.factors)) ≡ times (multiplied_out d)
-          (slope i (with_name i d.factors))
+      (slope i (with_name i d.factors))
   unfolding multiplied_out times plus
   den_slope d =
       let w = number (pos d.whole) in
@@ -220,11 +220,11 @@ module _ (i : Name) where
       let d = multiplied_out w.den in
       let begun : times (derived i w.numerator) (times polys.one (once named)) ≡ start.value =
       ap₂ times (derived_ok w.numerator derivative.value derivative.first) (once_ok polys.one named once_all.value once_all.first)
-          ∙ times_ok derivative.value once_all.value start.value start.first in
+      ∙ times_ok derivative.value once_all.value start.value start.first in
       let cross = same_quotient w.numerator (derived i w.numerator) d (derived i d) (once named) (slope i named) left.value (den_slope w.den)
       (without_parts_ok w.numerator start.value left.value [] named left.first ∙ sym begun) in
       ap value (sym (same_ok (normal left.value e) r factors.rest))
       ∙ normal-value left.value e den
       ∙ over_derived a w.numerator d left.value (multiplied_out e) (den_nonzero w.den is.den) (den_nonzero e den) derives
       (cross ∙ ap (times (plus (times (derived i w.numerator) d) (polys.neg (times w.numerator (derived i d)))))
-          (sym (multiplied_out-raised w.den factors.value is.den factors.first)))
+      (sym (multiplied_out-raised w.den factors.value is.den factors.first)))

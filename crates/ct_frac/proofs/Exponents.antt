@@ -35,7 +35,7 @@ grows p f (g ∷ gs) are = by (poly_cmp g.poly f.poly) refl (grows p f gs are.1.
   where
     by : (o : Ordering) → poly_cmp g.poly f.poly ≡ o → exponent_in p gs ≤ exponent_in p (joined_greatest f gs)
         → exponent_in p (g ∷ gs) ≤ exponent_in p
-            (by_order o (g ∷ joined_greatest f gs) (record { poly = g.poly; exp = max g.exp f.exp } ∷ gs) (f ∷ g ∷ gs))
+        (by_order o (g ∷ joined_greatest f gs) (record { poly = g.poly; exp = max g.exp f.exp } ∷ gs) (f ∷ g ∷ gs))
     by Less order more = picked_low (poly_cmp g.poly p) g.exp (exponent_in p gs) g.exp (exponent_in p (joined_greatest f gs)) (omega arith) more
     by Equal order more = picked_low (poly_cmp g.poly p) g.exp (exponent_in p gs) (max g.exp f.exp) (exponent_in p gs) (omega arith) (omega arith)
     by Greater order more = at_front (poly_cmp f.poly p) refl
@@ -61,11 +61,11 @@ stands f (g ∷ gs) = by (poly_cmp g.poly f.poly) refl (stands f gs)
         → f.exp ≤ exponent_in f.poly (by_order o (g ∷ joined_greatest f gs) (record { poly = g.poly; exp = max g.exp f.exp } ∷ gs) (f ∷ g ∷ gs))
     by Less order more =
         let same : exponent_in f.poly (g ∷ joined_greatest f gs) ≡ exponent_in f.poly (joined_greatest f gs) =
-                ap (λ o. picked o g.exp (exponent_in f.poly (joined_greatest f gs))) order in
+        ap (λ o. picked o g.exp (exponent_in f.poly (joined_greatest f gs))) order in
         omega arith
     by Equal order more =
         let same : exponent_in f.poly (record { poly = g.poly; exp = max g.exp f.exp } ∷ gs) ≡ max g.exp f.exp =
-                ap (λ o. picked o (max g.exp f.exp) (exponent_in f.poly gs)) order in
+        ap (λ o. picked o (max g.exp f.exp) (exponent_in f.poly gs)) order in
         omega arith
     by Greater order more =
         let same : exponent_in f.poly (f ∷ g ∷ gs) ≡ f.exp = ap (λ o. picked o f.exp (exponent_in f.poly (g ∷ gs))) (tied f.poly) in

@@ -27,7 +27,7 @@ joined_ok f (g ∷ gs) hs answer is are = by (poly_cmp g.poly f.poly) refl answe
     by :
         (o : Ordering) → poly_cmp g.poly f.poly ≡ o →
         by_order o (checked_joined f gs >>= (λ hs. Ok (g ∷ hs)))
-            (checked_exponent (g.exp + f.exp) >>= (λ e. Ok (record { poly = g.poly; exp = e } ∷ gs))) (Ok (f ∷ g ∷ gs)) ≡ Ok hs →
+        (checked_exponent (g.exp + f.exp) >>= (λ e. Ok (record { poly = g.poly; exp = e } ∷ gs))) (Ok (f ∷ g ∷ gs)) ≡ Ok hs →
         ((js : List Factor) → checked_joined f gs ≡ Ok js → Joined f gs js) → Joined f (g ∷ gs) hs
     by Less order answer more =
         let both = both_fit (checked_joined f gs) (λ js. Ok (g ∷ js)) hs answer in
@@ -42,11 +42,13 @@ joined_ok f (g ∷ gs) hs answer is are = by (poly_cmp g.poly f.poly) refl answe
         let kept = exponent_ok (g.exp + f.exp) both.value both.first in
         let tied : g.poly ≡ f.poly = poly_tied g.poly f.poly order in
         subst (Joined f (g ∷ gs)) (same_ok (record { poly = g.poly; exp = both.value } ∷ gs) hs both.rest) (record {
-          factors = (record { base = are.0.base; some = let some = are.0.some in let same = kept.same in omega arith; few = kept.low },
-              (are.1.0, are.1.1));
+          factors = (
+            record { base = are.0.base; some = let some = are.0.some in let same = kept.same in omega arith; few = kept.low },
+            (are.1.0, are.1.1),
+          );
           product = ap (λ e. times (power g.poly e) (product_of_factors gs)) (sym kept.same)
               ∙ ap (λ w. times w (product_of_factors gs)) (power-sum g.poly g.exp f.exp ∙ times_comm _ _
-                  ∙ ap (λ p. times (power p f.exp) (power g.poly g.exp)) tied)
+              ∙ ap (λ p. times (power p f.exp) (power g.poly g.exp)) tied)
               ∙ times_assoc _ _ _;
           below = λ p less below. below;
         })

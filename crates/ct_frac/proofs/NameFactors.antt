@@ -157,7 +157,7 @@ unfolding times
 product_of_factors-names_from zero i m all =
     one_is ∙ number_is (pos 1)
     ∙ ap (λ n. term n (pos 1))
-        (same_mono unit (from_name i m) (λ k low. exp-unit k low ∙ sym (exp-mono (λ k. cond (ltb k i) 0 (exp m k)) k low ∙ past k low)))
+    (same_mono unit (from_name i m) (λ k low. exp-unit k low ∙ sym (exp-mono (λ k. cond (ltb k i) 0 (exp m k)) k low ∙ past k low)))
   where
     past : (k : ℕ) → k < 6 → cond (ltb k i) 0 (exp m k) ≡ 0
     past k low = ap (λ b. cond b 0 (exp m k)) (lt-ltb k i (omega arith))
@@ -192,5 +192,5 @@ pub product_of_factors-names : (m : Mono) → product_of_factors (names_from 6 0
 product_of_factors-names m =
     product_of_factors-names_from 6 0 m refl
     ∙ ap (λ n. term n (pos 1))
-        (same_mono (from_name 0 m) m (λ k low. exp-mono (λ k. cond (ltb k 0) 0 (exp m k)) k low
-        ∙ ap (λ b. cond b 0 (exp m k)) (le-ltb k 0 (omega arith))))
+    (same_mono (from_name 0 m) m (λ k low. exp-mono (λ k. cond (ltb k 0) 0 (exp m k)) k low
+    ∙ ap (λ b. cond b 0 (exp m k)) (le-ltb k 0 (omega arith))))

@@ -55,7 +55,7 @@ regroup t l d r s = simp (times_assoc, times_left_comm)
 lowered-value :
     (n : Polynomial) (done fs : List Factor) →
     times n (product_of_factors (lowered n done fs).factors) ≡ times (lowered n done fs).numerator
-        (times (product_of_factors done) (product_of_factors fs))
+    (times (product_of_factors done) (product_of_factors fs))
 lowered-value n done [] = ap (times n) (sym (times_one (product_of_factors done)))
 lowered-value n done (f ∷ fs) =
     let left = divided_out f.poly n f.exp in
@@ -64,7 +64,7 @@ lowered-value n done (f ∷ fs) =
     let r = lowered left.numerator kept fs in
     let kept_is : product_of_factors kept ≡ times (product_of_factors done) (power f.poly left.exponent) =
     product_of_factors-append done _
-        ∙ ap (times (product_of_factors done)) (product_of_factors-with_exponent f.poly left.exponent [] ∙ times_one _) in
+    ∙ ap (times (product_of_factors done)) (product_of_factors-with_exponent f.poly left.exponent [] ∙ times_one _) in
     ap (λ m. times m (product_of_factors r.factors)) (is.numerator_is ∙ times_comm _ _) ∙ times_assoc _ _ _
     ∙ ap (times (power f.poly is.lost)) (lowered-value left.numerator kept fs)
     ∙ ap (λ x. times (power f.poly is.lost) (times r.numerator (times x (product_of_factors fs)))) kept_is

@@ -100,9 +100,10 @@ module _ (i : Name) where
 
   moved_different : (fs : List Factor) → AreFactors fs → AreDifferent (all_moved fs)
   moved_different [] are = tt
-  moved_different (f ∷ fs) are =
-      (record { base = base_moved f.poly are.0.base; some = are.0.some; few = are.0.few },
-          (moved_differs f.poly fs are.1.0, moved_different fs are.1.1))
+  moved_different (f ∷ fs) are = (
+    record { base = base_moved f.poly are.0.base; some = are.0.some; few = are.0.few },
+    (moved_differs f.poly fs are.1.0, moved_different fs are.1.1),
+  )
 
   product_of_factors-moved : (fs : List Factor) → product_of_factors (all_moved fs) ≡ moved (product_of_factors fs)
   product_of_factors-moved [] = sym moved-one
@@ -120,19 +121,19 @@ module _ (i : Name) where
   shifted_factors_ok done [] gs fits = same_ok done gs fits
   shifted_factors_ok done (f ∷ fs) gs fits =
       let first = both_fit (checked_shifted i 1 f.poly) (λ p. checked_shifted_factors i (inserted (record { poly = p; exp = f.exp }) done) fs) gs fits
-              in
+      in
       ap (λ p. sorted_onto (inserted (record { poly = p; exp = f.exp }) done) (all_moved fs)) (shifted_ok f.poly first.value first.first)
       ∙ shifted_factors_ok (inserted (record { poly = first.value; exp = f.exp }) done) fs gs first.rest
 
   pub factors_shifted : (fs gs : List Factor) → AreFactors fs → checked_shifted_factors i [] fs ≡ Ok gs → AreFactors gs
   factors_shifted fs gs are fits =
       subst AreFactors (shifted_factors_ok [] fs gs fits)
-          (sorted_factors [] (all_moved fs) tt (moved_different fs are) (apart_from_none (all_moved fs)))
+      (sorted_factors [] (all_moved fs) tt (moved_different fs are) (apart_from_none (all_moved fs)))
 
   product_shifted : (fs gs : List Factor) → checked_shifted_factors i [] fs ≡ Ok gs → product_of_factors gs ≡ moved (product_of_factors fs)
   product_shifted fs gs fits =
       ap product_of_factors (sym (shifted_factors_ok [] fs gs fits)) ∙ product_of_factors-sorted_onto [] (all_moved fs) ∙ one_times _
-          ∙ product_of_factors-moved fs
+      ∙ product_of_factors-moved fs
 
   -- ---- fractions
 
@@ -193,8 +194,8 @@ module _ (i : Name) where
       let x = ratio w.numerator (multiplied_out w.den) some in
       value_over-ratio r.numerator (multiplied_out r.den) (den_nonzero r.den m.written.den)
       ∙ fractions.equal (ratio r.numerator (multiplied_out r.den) (den_nonzero r.den m.written.den))
-          (sigma_of polys polys_domain (actions.polynomials a) (plain a) i x)
+      (sigma_of polys polys_domain (actions.polynomials a) (plain a) i x)
       (ap₂ times (m.numerator ∙ sym (sigma_by-moved (a i) w.numerator shifts)) (sigma_by-moved (a i) (multiplied_out w.den) shifts
-          ∙ sym m.denominator))
+      ∙ sym m.denominator))
       ∙ sym (σ_value-value polys polys_domain (actions.polynomials a) (plain a) i x)
       ∙ ap ((coefficients a).σ i) (sym (value_over-ratio w.numerator (multiplied_out w.den) some))

@@ -38,7 +38,7 @@ higher_leads p q m c first below =
     value =
         at-⊕ monomials int_group p q m
         ∙ ap₂ ◌+ℤ◌ (ap (λ es. value_at monomials int_group es m) led.is_first ∙ at_head monomials int_group (m, c) led.rest falling.1)
-            (at_below monomials int_group m q.terms below)
+        (at_below monomials int_group m q.terms below)
         ∙ plus_zero c
 
     above : (k : Mono) → mono_cmp m k ≡ Less → at monomials int_group (plus p q) k ≡ pos 0
@@ -102,7 +102,7 @@ module _ (a : Name → ℤ) where
   monic_leads =
       by_symbols (λ m. IsFirst (shift a (term m (pos 1))) m (pos 1))
       (ap (λ p. leading p.terms) (ap (shift a) (sym (number_is (pos 1))) ∙ (shift_ring_hom a).numbers (pos 1) ∙ number_is (pos 1))
-          ∙ term_leads unit (pos 1) one_there)
+      ∙ term_leads unit (pos 1) one_there)
       (λ i m before.
       ap (λ p. leading p.terms) (ap (shift a) (symbol_term i m) ∙ shifted_product _ _)
       ∙ multiplied_leads (shift a (name i)) (shift a (term m (pos 1))) (symbol i) m (pos 1) (pos 1) (name_leads i) before)
@@ -110,9 +110,9 @@ module _ (a : Name → ℤ) where
   shifted_term_leads : (m : Mono) (c : ℤ) → c ≢ pos 0 → IsFirst (shift a (term m c)) m c
   shifted_term_leads m c some =
       ap (λ p. leading p.terms) (ap (shift a) (sym (number-* c m (pos 1) ∙ ap (term m) (times_one c))) ∙ shifted_product _ _
-          ∙ ap (λ w. times w (shift a (term m (pos 1)))) ((shift_ring_hom a).numbers c))
+      ∙ ap (λ w. times w (shift a (term m (pos 1)))) ((shift_ring_hom a).numbers c))
       ∙ multiplied_leads (number c) (shift a (term m (pos 1))) unit m c (pos 1) (ap (λ p. leading p.terms) (number_is c) ∙ term_leads unit c some)
-          (monic_leads m)
+      (monic_leads m)
       ∙ ap₂ (λ k d. Some (k, d)) (·_comm unit m ∙ ·-unit m) (times_one c)
 
   -- ---- all terms
@@ -169,7 +169,7 @@ content_grows a p =
     let q = divided unit (pos g) p in
     subst (λ r. g ∣ content r)
     (sym (ap (shift a) (sym (part_whole g p (dvd_refl g)) ∙ times_is _ _) ∙ shifted_product a _ _
-        ∙ ap (λ w. times w (shift a q)) ((shift_ring_hom a).numbers (pos g))))
+    ∙ ap (λ w. times w (shift a q)) ((shift_ring_hom a).numbers (pos g))))
     (multiple_divides g (shift a q))
 
 pub content-shift : (a : Name → ℤ) (p : Polynomial) → content (shift a p) ≡ content p

@@ -50,7 +50,7 @@ module _ (i : Name) where
   power_slope p zero =
       ap (λ w. times w p) derived_one ∙ zero_mul polys p
       ∙ sym (ap (λ w. times (times w (derived i p)) polys.one) number_zero ∙ ap (λ w. times w polys.one) (zero_mul polys (derived i p))
-          ∙ zero_mul polys polys.one)
+      ∙ zero_mul polys polys.one)
   power_slope p (suc n) =
       let w = power p n in
       let k = number (pos n) in
@@ -117,7 +117,7 @@ module _ (i : Name) where
           ∙ ring8 polys w f.poly p s o k (derived i f.poly) polys.zero (λ a b c d e g h j. (search reify depth 20, search reify depth 20)) refl
       by false none more =
           ap (λ v. times v o) (derived-times w p ∙ ap (λ v. plus (times w (derived i p)) (times v p))
-              (power_none f.poly f.exp (derived_none f.poly none)))
+          (power_none f.poly f.exp (derived_none f.poly none)))
           ∙ ring4 polys w p (derived i p) o (λ a b c d. (search reify depth 20, search reify depth 20)) refl
           ∙ ap (times w) more
           ∙ sym (times_assoc w p s)

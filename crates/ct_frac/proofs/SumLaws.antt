@@ -97,9 +97,9 @@ difference-value x y r is it answer =
     ap value (sym (same_ok (normal whole.value common.value) r whole.rest))
     ∙ normal-value whole.value common.value cleared.den
     ∙ ap (λ n. value_over n (multiplied_out common.value)) (sym (minus_ok mine.value its.value whole.value whole.first)
-        ∙ minus_is mine.value its.value)
+    ∙ minus_is mine.value its.value)
     ∙ added x.numerator (polys.neg y.numerator) (multiplied_out x.den) (multiplied_out y.den) (multiplied_out common.value) mine.value
-        (polys.neg its.value)
+    (polys.neg its.value)
     (den_nonzero x.den is.den) (den_nonzero y.den it.den) (den_nonzero common.value cleared.den) cleared.first turned
     ∙ (unfold value in ap (field.◌+◌ (value x)) (sym (over-negative y.numerator (multiplied_out y.den) (den_nonzero y.den it.den))))
 
@@ -150,7 +150,7 @@ full_product-value x y r is it answer =
     ∙ normal-value n.value d den.den
     ∙ ap₂ value_over (sym (times_ok x.numerator y.numerator n.value n.first)) den.product
     ∙ (unfold value in sym (over-times x.numerator (multiplied_out x.den) y.numerator (multiplied_out y.den) (den_nonzero x.den is.den)
-        (den_nonzero y.den it.den)))
+    (den_nonzero y.den it.den)))
 
 over-zero : (d : Polynomial) → d ≢ polys.zero → value_over polys.zero d ≡ field.zero
 unfolding times
@@ -217,7 +217,7 @@ pub cleared-value :
 unfolding value
 cleared-value w d n is its divides answer =
     same_over n (multiplied_out d) w.numerator (multiplied_out w.den) (den_nonzero d its) (den_nonzero w.den is.den)
-        (cleared_ok w d n is.den its divides answer)
+    (cleared_ok w d n is.den its divides answer)
 
 -- the test that the code makes
 pub is_zero_told : (p : Polynomial) (b : Bool) → IsTrue b ↔ (p ≡ polys.zero) → polys.is_zero p ≡ b

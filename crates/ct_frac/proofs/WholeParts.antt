@@ -61,7 +61,7 @@ value_at-negatives : (k : Mono) (es : List (Mono × ℤ)) →
 value_at-negatives k [] = sym (neg_zero int_group)
 value_at-negatives k (e ∷ es) =
     ap₂ int_group.◌+◌ (by (mono_cmp e.0 k) e.1) (value_at-negatives k es)
-        ∙ sym (neg_sum int_group (pick monomials int_group k e.0 e.1) (value_at monomials int_group es k))
+    ∙ sym (neg_sum int_group (pick monomials int_group k e.0 e.1) (value_at monomials int_group es k))
   where
     by : (r : Ordering) (c : ℤ) → by_order r int_group.zero (int_group.neg c) int_group.zero ≡ int_group.neg
         (by_order r int_group.zero c int_group.zero)
@@ -82,8 +82,10 @@ terms-negative p =
 pub content-negative : (p : Polynomial) → content (polys.neg p) ≡ content p
 content-negative p = sym
     (content_only (polys.neg p) (content p)
-    (λ d. (λ divides. subst (DividesAll d) (sym (terms-negative p)) (into d p.terms ((content_is p d).0 divides)),
-    λ all. (content_is p d).1 (back d p.terms (subst (DividesAll d) (terms-negative p) all)))))
+    (λ d. (
+      λ divides. subst (DividesAll d) (sym (terms-negative p)) (into d p.terms ((content_is p d).0 divides)),
+      λ all. (content_is p d).1 (back d p.terms (subst (DividesAll d) (terms-negative p) all)),
+    )))
   where
     size : (c : ℤ) → unsigned_abs (int_group.neg c) ≡ unsigned_abs c
     size (pos zero) = refl

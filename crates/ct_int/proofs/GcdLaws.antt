@@ -37,10 +37,12 @@ divides_other a b c coprime whole =
 
 -- numbers divided by their greatest common divisor are coprime
 pub coprime_parts : (x y g : ℕ) → 0 < g → IsGcd (x * g) (y * g) g → IsGcd x y 1
-coprime_parts x y g some h =
-    (one-dvd x, one-dvd y,
-        λ d p q. dvd_of_mul-dvd-mul_right d some
-        (subst (λ n. d * g ∣ n) (sym (one-mul g)) (h.2 (d * g) (mul-dvd-mul_right d p g) (mul-dvd-mul_right d q g))))
+coprime_parts x y g some h = (
+  one-dvd x,
+  one-dvd y,
+  λ d p q. dvd_of_mul-dvd-mul_right d some
+      (subst (λ n. d * g ∣ n) (sym (one-mul g)) (h.2 (d * g) (mul-dvd-mul_right d p g) (mul-dvd-mul_right d q g))),
+)
 
 pub coprime_factors : (a b x y : ℕ) → IsGcd a b 1 → x ∣ a → y ∣ b → IsGcd x y 1
 coprime_factors a b x y h first second =
@@ -54,7 +56,7 @@ coprime_product x y z first second =
 pub same_denominators : (a b c d : ℕ) → IsGcd a b 1 → IsGcd c d 1 → a * d ≡ c * b → b ≡ d
 same_denominators a b c d first second same =
     dvd_antisymm (divides_other b a d (IsGcd-swap a b 1 first) (subst (λ n. b ∣ n) (sym same) (dvd-mul_left b c)))
-        (divides_other d c b (IsGcd-swap c d 1 second) (subst (λ n. d ∣ n) same (dvd-mul_left d a)))
+    (divides_other d c b (IsGcd-swap c d 1 second) (subst (λ n. d ∣ n) same (dvd-mul_left d a)))
 
 -- a greatest common divisor, and the numbers divided by it
 pub record Cofactors (a b : ℕ) : Type 0 where
@@ -76,5 +78,11 @@ some_gcd (suc n) a (suc b) few =
 pub gcd-exists : (a b : ℕ) → Cofactors a b
 gcd-exists a b =
     let found : (g : ℕ) × IsGcd a b g = some_gcd (suc b) a b (omega arith) in
-    record { divisor = found.0; first = a / found.0; second = b / found.0; greatest = found.1; first_whole = div-mul_cancel found.0 found.1.0;
-        second_whole = div-mul_cancel found.0 found.1.1 }
+    record {
+      divisor = found.0;
+      first = a / found.0;
+      second = b / found.0;
+      greatest = found.1;
+      first_whole = div-mul_cancel found.0 found.1.0;
+      second_whole = div-mul_cancel found.0 found.1.1;
+    }

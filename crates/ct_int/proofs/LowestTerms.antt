@@ -14,7 +14,7 @@ pub same_value-trans : (p q r : Ratio) → 0 < q.den → SameValue p q → SameV
 same_value-trans p q r positive first second =
     scaled_same (p.num *ℤ pos r.den) (r.num *ℤ pos p.den) q.den positive
     (scaled_comm p.num r.den q.den ∙ ap (λ z. z *ℤ pos r.den) first ∙ scaled_comm q.num p.den r.den ∙ ap (λ z. z *ℤ pos p.den) second
-        ∙ scaled_comm r.num q.den p.den)
+    ∙ scaled_comm r.num q.den p.den)
 
 -- one value has one lowest terms
 pub lowest-same : (r s : Ratio) → IsLowest r → IsLowest s → SameValue r s → r ≡ s
@@ -55,8 +55,10 @@ pub lowest-cancelled : (p r : Ratio) → 0 < p.den → IsCancelled p r → IsLow
 lowest-cancelled p r some h =
     let both : IsGcd (unsigned_abs r.num * h.divisor) (r.den * h.divisor) h.divisor = rw (h.den, abs-scaled r.num p.num h.divisor h.num) h.greatest in
     record {
-      lowest = record { positive = factor-positive r.den h.divisor p.den h.den some;
-          coprime = coprime_parts (unsigned_abs r.num) r.den h.divisor (divisor-positive p r some h) both };
+      lowest = record {
+        positive = factor-positive r.den h.divisor p.den h.den some;
+        coprime = coprime_parts (unsigned_abs r.num) r.den h.divisor (divisor-positive p r some h) both;
+      };
       same = ap (λ n. r.num *ℤ pos n) (sym h.den ∙ mul_comm r.den h.divisor) ∙ sym (scaled_twice r.num h.divisor r.den)
           ∙ ap (λ z. z *ℤ pos r.den) h.num;
     }
@@ -74,7 +76,7 @@ IsRational-cancelled p r some num den h =
 same_product : (x y : ℤ) (j k : ℕ) → (x *ℤ pos j) *ℤ (y *ℤ pos k) ≡ (x *ℤ y) *ℤ pos (k * j)
 same_product x y j k =
     sym (scaled_product x (y *ℤ pos k) j)
-        ∙ ap (λ z. z *ℤ pos j) (*ℤ_comm x (y *ℤ pos k) ∙ sym (scaled_product y x k) ∙ ap (λ z. z *ℤ pos k) (*ℤ_comm y x)) ∙ scaled_twice (x *ℤ y) k j
+    ∙ ap (λ z. z *ℤ pos j) (*ℤ_comm x (y *ℤ pos k) ∙ sym (scaled_product y x k) ∙ ap (λ z. z *ℤ pos k) (*ℤ_comm y x)) ∙ scaled_twice (x *ℤ y) k j
 
 regrouped : (b d j k : ℕ) → (b * k) * (d * j) ≡ (k * j) * (b * d)
 regrouped b d j k = omega arith
@@ -98,9 +100,9 @@ lowest-product p q s t first second left right =
     let a_d : IsGcd a d 1 = (lowest-cancelled (ratio p.num (pos q.den)) s second.positive left).lowest.coprime in
     let c_b : IsGcd c b 1 = (lowest-cancelled (ratio q.num (pos p.den)) t first.positive right).lowest.coprime in
     let a_b : IsGcd a b 1 = coprime_factors _ _ a b first.coprime (subst (λ n. a ∣ n) whole_a (dvd-mul_right a j))
-            (subst (λ n. b ∣ n) right.den (dvd-mul_right b k)) in
+    (subst (λ n. b ∣ n) right.den (dvd-mul_right b k)) in
     let c_d : IsGcd c d 1 = coprime_factors _ _ c d second.coprime (subst (λ n. c ∣ n) whole_c (dvd-mul_right c k))
-            (subst (λ n. d ∣ n) left.den (dvd-mul_right d j)) in
+    (subst (λ n. d ∣ n) left.den (dvd-mul_right d j)) in
     let b_all : IsGcd b (a * c) 1 = IsGcd-swap (a * c) b 1 (coprime_product a c b a_b c_b) in
     let d_all : IsGcd d (a * c) 1 = IsGcd-swap (a * c) d 1 (coprime_product a c d a_d c_d) in
     let all : IsGcd (a * c) (b * d) 1 = IsGcd-swap (b * d) (a * c) 1 (coprime_product b d (a * c) b_all d_all) in
@@ -119,7 +121,7 @@ pub product-fits : (p q r : Ratio) → 0 < p.den → 0 < q.den → IsLowestTerms
     LowestTermsPass (product_of_ratios p q) → ⊥
 product-fits p q r some any terms within passes =
     let same : passes.terms ≡ r = lowest_terms-same (product_of_ratios p q) (product_of_ratios p q) passes.terms r (mul-pos some any)
-            (mul-pos some any) refl passes.lowest terms in
+    (mul-pos some any) refl passes.lowest terms in
     ⊎_elim
     (λ past. let far : largest_whole < unsigned_abs r.num = rw same at past in omega (arith, far, within.num_within))
     (λ past. let far : largest_whole < r.den = rw same at past in omega (arith, far, within.den_within)) passes.past

@@ -29,9 +29,9 @@ same_sum :
     (x *ℤ pos f +ℤ y *ℤ pos e) *ℤ pos (b * d) ≡ (x *ℤ pos d +ℤ y *ℤ pos b) *ℤ pos (e * d)
 same_sum x y b d e f g first second =
     scaled_sum (x *ℤ pos f) (y *ℤ pos e) (b * d)
-        ∙ ap₂ (λ m n. m +ℤ n) (scaled_twice x f (b * d) ∙ ap (λ n. x *ℤ pos n) (sum_places b d e f g first second) ∙ sym (scaled_twice x d (e * d)))
-        (scaled_twice y e (b * d) ∙ ap (λ n. y *ℤ pos n) (sum_places-other b d e) ∙ sym (scaled_twice y b (e * d)))
-        ∙ sym (scaled_sum (x *ℤ pos d) (y *ℤ pos b) (e * d))
+    ∙ ap₂ (λ m n. m +ℤ n) (scaled_twice x f (b * d) ∙ ap (λ n. x *ℤ pos n) (sum_places b d e f g first second) ∙ sym (scaled_twice x d (e * d)))
+    (scaled_twice y e (b * d) ∙ ap (λ n. y *ℤ pos n) (sum_places-other b d e) ∙ sym (scaled_twice y b (e * d)))
+    ∙ sym (scaled_sum (x *ℤ pos d) (y *ℤ pos b) (e * d))
 
 quotient-positive : (n k : ℕ) → 0 < k → 0 < n → k ∣ n → 0 < n / k
 quotient-positive n k some positive divides =
@@ -67,7 +67,7 @@ sum-fits p q g greatest num den passes =
     let same : passes.divisor ≡ g = same_from_IsGcd p.den q.den passes.divisor g passes.greatest greatest in
     ⊎_elim
     (λ past. let far : largest_whole < unsigned_abs p.num * (q.den / g) + unsigned_abs q.num * (p.den / g) = rw same at past in
-        omega (arith, far, num))
+    omega (arith, far, num))
     (λ past. let far : largest_whole < p.den / g * q.den = rw same at past in omega (arith, far, den)) passes.past
 
 -- ---- opposites and reciprocals
@@ -132,7 +132,7 @@ product_of_ratios-reciprocal p q first = by q.num
     by (pos n) = ap (λ d. ratio (p.num *ℤ pos q.den) (pos d)) (mul_comm p.den n)
     by (negsuc n) =
         ap₂ (λ m d. ratio m (pos d)) (times_negated p.num q.den) (mul_comm p.den (suc n))
-            ∙ sym (ratio-of_negated (p.num *ℤ pos q.den) (suc n * p.den) (mul-pos (omega arith) first))
+        ∙ sym (ratio-of_negated (p.num *ℤ pos q.den) (suc n * p.den) (mul-pos (omega arith) first))
 
 -- a refusal is judged alike by facts that follow from each other
 pub refuses-same :

@@ -47,7 +47,7 @@ times_negated x (suc k) = *ℤ-negsuc x k
 pub both_negated : (x : ℤ) (j k : ℕ) → (x *ℤ neg_ℤ (pos j)) *ℤ neg_ℤ (pos k) ≡ (x *ℤ pos j) *ℤ pos k
 both_negated x j k =
     times_negated (x *ℤ neg_ℤ (pos j)) k ∙ ap (λ z. neg_ℤ (z *ℤ pos k)) (times_negated x j) ∙ ap neg_ℤ (scaled_negated (x *ℤ pos j) k)
-        ∙ neg_ℤ-neg_ℤ ((x *ℤ pos j) *ℤ pos k)
+    ∙ neg_ℤ-neg_ℤ ((x *ℤ pos j) *ℤ pos k)
 
 -- a whole number divided by a divisor of its size, by the sign
 pub exact-negative : (x : ℤ) (k : ℕ) → k ∣ unsigned_abs x → x <ℤ pos 0 → neg_ℤ (pos (unsigned_abs x / k)) *ℤ pos k ≡ x

@@ -28,15 +28,15 @@ same_summand x y b c e f same =
 pub sums_by_value : (p q r s : Ratio) → SameValue p q → SameValue r s → SameValue (sum_of_ratios p r) (sum_of_ratios q s)
 sums_by_value p q r s first second =
     scaled_sum (p.num *ℤ pos r.den) (r.num *ℤ pos p.den) (q.den * s.den)
-        ∙ ap₂ (λ m n. m +ℤ n) (same_summand p.num q.num p.den q.den r.den s.den first)
-        (ap (λ n. (r.num *ℤ pos p.den) *ℤ pos n) (mul_comm q.den s.den) ∙ same_summand r.num s.num r.den s.den p.den q.den second
-        ∙ ap (λ n. (s.num *ℤ pos q.den) *ℤ pos n) (mul_comm r.den p.den)) ∙ sym (scaled_sum (q.num *ℤ pos s.den) (s.num *ℤ pos q.den) (p.den * r.den))
+    ∙ ap₂ (λ m n. m +ℤ n) (same_summand p.num q.num p.den q.den r.den s.den first)
+    (ap (λ n. (r.num *ℤ pos p.den) *ℤ pos n) (mul_comm q.den s.den) ∙ same_summand r.num s.num r.den s.den p.den q.den second
+    ∙ ap (λ n. (s.num *ℤ pos q.den) *ℤ pos n) (mul_comm r.den p.den)) ∙ sym (scaled_sum (q.num *ℤ pos s.den) (s.num *ℤ pos q.den) (p.den * r.den))
 
 -- a scale is split over two factors
 split : (x y : ℤ) (j k : ℕ) → (x *ℤ y) *ℤ pos (j * k) ≡ (x *ℤ pos j) *ℤ (y *ℤ pos k)
 split x y j k =
     sym (scaled_twice (x *ℤ y) j k) ∙ ap (λ z. z *ℤ pos k) (scaled_product x y j) ∙ ap (λ z. z *ℤ pos k) (*ℤ_comm (x *ℤ pos j) y)
-        ∙ scaled_product y (x *ℤ pos j) k ∙ *ℤ_comm (y *ℤ pos k) (x *ℤ pos j)
+    ∙ scaled_product y (x *ℤ pos j) k ∙ *ℤ_comm (y *ℤ pos k) (x *ℤ pos j)
 
 pub products_by_value : (p q r s : Ratio) → SameValue p q → SameValue r s → SameValue (product_of_ratios p r) (product_of_ratios q s)
 products_by_value p q r s first second =
@@ -51,8 +51,13 @@ difference_and_sum p q =
 
     -- the subtrahend is added again
     sum : (p.num *ℤ pos q.den -ℤ q.num *ℤ pos p.den) *ℤ pos q.den +ℤ q.num *ℤ pos (p.den * q.den) ≡ (p.num *ℤ pos q.den) *ℤ pos q.den
-    sum = omega (arith, ints, scaled_sum (p.num *ℤ pos q.den) (neg_ℤ (q.num *ℤ pos p.den)) q.den, scaled_negated (q.num *ℤ pos p.den) q.den,
-        scaled_twice q.num p.den q.den)
+    sum = omega (
+      arith,
+      ints,
+      scaled_sum (p.num *ℤ pos q.den) (neg_ℤ (q.num *ℤ pos p.den)) q.den,
+      scaled_negated (q.num *ℤ pos p.den) q.den,
+      scaled_twice q.num p.den q.den,
+    )
 
     whole : (p.num *ℤ pos q.den) *ℤ pos q.den ≡ p.num *ℤ pos (q.den * q.den)
     whole = scaled_twice p.num q.den q.den
@@ -63,15 +68,19 @@ lowest_terms-exist p some = by p.num p.den some (gcd-exists (unsigned_abs p.num)
   where
     by : (n : ℤ) (d : ℕ) → 0 < d → Cofactors (unsigned_abs n) d → (r : Ratio) × IsLowestTerms (ratio n (pos d)) r
     by (pos n) d some found =
-        let r = ratio (pos found.first) (pos found.second) in
-        (r, lowest-cancelled (ratio (pos n) (pos d)) r some
-            (record { divisor = found.divisor; greatest = found.greatest; num = ap pos found.first_whole; den = found.second_whole }))
+        let r = ratio (pos found.first) (pos found.second) in (
+          r,
+          lowest-cancelled (ratio (pos n) (pos d)) r some
+              (record { divisor = found.divisor; greatest = found.greatest; num = ap pos found.first_whole; den = found.second_whole }),
+        )
     by (negsuc n) d some found =
         let r = ratio (neg_ℤ (pos found.first)) (pos found.second) in
         let num : neg_ℤ (pos found.first) *ℤ pos found.divisor ≡ negsuc n = scaled_negated (pos found.first) found.divisor
-                ∙ ap (λ m. neg_ℤ (pos m)) found.first_whole in
-        (r, lowest-cancelled (ratio (negsuc n) (pos d)) r some
-            (record { divisor = found.divisor; greatest = found.greatest; num = num; den = found.second_whole }))
+        ∙ ap (λ m. neg_ℤ (pos m)) found.first_whole in (
+          r,
+          lowest-cancelled (ratio (negsuc n) (pos d)) r some
+              (record { divisor = found.divisor; greatest = found.greatest; num = num; den = found.second_whole }),
+        )
 
 -- a number times a reciprocal of its own sign
 pub quotient_and_product : (p q : Ratio) → 0 < p.den → q.num ≢ pos 0 → SameValue (product_of_ratios (quotient_of_ratios p q) q) p
@@ -87,7 +96,7 @@ quotient_and_product p q first other =
         ap (λ z. z *ℤ pos p.den) (scaled_twice p.num q.den n) ∙ scaled_twice p.num (q.den * n) p.den ∙ ap (λ m. p.num *ℤ pos m) (moved p.den q.den n)
     by (negsuc n) other =
         ap (λ z. z *ℤ pos p.den) (both_negated p.num q.den (suc n) ∙ scaled_twice p.num q.den (suc n)) ∙ scaled_twice p.num (q.den * suc n) p.den
-            ∙ ap (λ m. p.num *ℤ pos m) (moved p.den q.den (suc n))
+        ∙ ap (λ m. p.num *ℤ pos m) (moved p.den q.den (suc n))
 
 -- ---- the order
 
@@ -116,8 +125,10 @@ order_of_ratios-passed_on p q r first second third less below =
     right = ap₂ int_cmp (common-swap q p r) (common-swap r p q) ∙ sym (order_of_ratios-common q r p first) ∙ below
 
 pub Equal-by_value : (p q : Ratio) → (order_of_ratios p q ≡ Equal) ↔ SameValue p q
-Equal-by_value p q = (λ e. only (order_of_ratios p q) (int_ranks (p.num *ℤ pos q.den) (q.num *ℤ pos p.den)) e,
-    λ same. ap (λ z. int_cmp z (q.num *ℤ pos p.den)) same ∙ tied_itself int_cmp_total (q.num *ℤ pos p.den))
+Equal-by_value p q = (
+  λ e. only (order_of_ratios p q) (int_ranks (p.num *ℤ pos q.den) (q.num *ℤ pos p.den)) e,
+  λ same. ap (λ z. int_cmp z (q.num *ℤ pos p.den)) same ∙ tied_itself int_cmp_total (q.num *ℤ pos p.den),
+)
   where
     only : (o : Ordering) → MatchOrdering o ((p.num *ℤ pos q.den) <ℤ (q.num *ℤ pos p.den)) (SameValue p q)
         ((q.num *ℤ pos p.den) <ℤ (p.num *ℤ pos q.den)) → o ≡ Equal → SameValue p q

@@ -33,7 +33,7 @@ pub product-halves : (a b : ℕ) →
     ((upper ((a / half) * (b % half)) ((a % half) * (b / half)) ((a % half) * (b % half)) % half) * half + ((a % half) * (b % half)) % half) ≡ a * b
 product-halves a b =
     carried ((a / half) * (b / half)) ((a / half) * (b % half)) ((a % half) * (b / half)) ((a % half) * (b % half))
-        ∙ multiplied (a / half) (a % half) (b / half) (b % half) ∙ ap₂ (λ m n. m * n) (div-add-mod' a half) (div-add-mod' b half)
+    ∙ multiplied (a / half) (a % half) (b / half) (b % half) ∙ ap₂ (λ m n. m * n) (div-add-mod' a half) (div-add-mod' b half)
 
 -- numbers are compared by their upper halves, where these differ
 pub nat_cmp-halves : (m n j k limit : ℕ) → j < limit → k < limit → (o : Ordering) → o ≡ nat_cmp m n → (o ≡ Equal → ⊥) →

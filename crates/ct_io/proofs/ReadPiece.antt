@@ -14,7 +14,7 @@ append-copied :
 append-copied rest copied tail n same within =
     let front : take n (copied ++ tail) ≡ take n rest =
     rw same (let size : length (take n rest) ≡ n = length-take-le n rest within in ap (λ (k : ℕ). take k (take n rest ++ tail)) (sym size)
-        ∙ take-append_seam (take n rest) tail) in
+    ∙ take-append_seam (take n rest) tail) in
     rw front (sym (take-append-drop n rest))
 
 -- what is left falls by what was read, and no byte is read only at the end
@@ -29,7 +29,7 @@ left-read bytes copied piece at n step steps same count =
     let fits : n ≤ length (drop at bytes) = omega (arith, count) in
     let length_copied : length copied ≡ n = ap length same ∙ length-take-le n (drop at bytes) fits in
     let length_piece : length (copied ++ drop n piece) ≡ length piece =
-            omega (arith, count, length_copied, length-append copied (drop n piece), length-drop n piece) in
+    omega (arith, count, length_copied, length-append copied (drop n piece), length-drop n piece) in
     rw (← drop-drop n at bytes) (
       append-copied (drop at bytes) copied (drop n piece) n same fits,
       λ none room. drop_all n (drop at bytes) (omega (arith, steps, count, none, room, length_piece)),

@@ -29,29 +29,77 @@ total-with_exponent i e m h = by i h
   where
     by : (i : ℕ) → i < 6 → total (with_exponent i e m) + exp m i ≡ total m + e
     by zero h =
-        omega (arith, six_are m, six_are (with_exponent 0 e m), exp-with_exponent 0 e m 0 (lit< tt), exp-with_exponent 0 e m 1 (lit< tt),
-            exp-with_exponent 0 e m 2 (lit< tt), exp-with_exponent 0 e m 3 (lit< tt), exp-with_exponent 0 e m 4 (lit< tt),
-            exp-with_exponent 0 e m 5 (lit< tt))
+        omega (
+          arith,
+          six_are m,
+          six_are (with_exponent 0 e m),
+          exp-with_exponent 0 e m 0 (lit< tt),
+          exp-with_exponent 0 e m 1 (lit< tt),
+          exp-with_exponent 0 e m 2 (lit< tt),
+          exp-with_exponent 0 e m 3 (lit< tt),
+          exp-with_exponent 0 e m 4 (lit< tt),
+          exp-with_exponent 0 e m 5 (lit< tt),
+        )
     by (suc zero) h =
-        omega (arith, six_are m, six_are (with_exponent 1 e m), exp-with_exponent 1 e m 0 (lit< tt), exp-with_exponent 1 e m 1 (lit< tt),
-            exp-with_exponent 1 e m 2 (lit< tt), exp-with_exponent 1 e m 3 (lit< tt), exp-with_exponent 1 e m 4 (lit< tt),
-            exp-with_exponent 1 e m 5 (lit< tt))
+        omega (
+          arith,
+          six_are m,
+          six_are (with_exponent 1 e m),
+          exp-with_exponent 1 e m 0 (lit< tt),
+          exp-with_exponent 1 e m 1 (lit< tt),
+          exp-with_exponent 1 e m 2 (lit< tt),
+          exp-with_exponent 1 e m 3 (lit< tt),
+          exp-with_exponent 1 e m 4 (lit< tt),
+          exp-with_exponent 1 e m 5 (lit< tt),
+        )
     by (suc (suc zero)) h =
-        omega (arith, six_are m, six_are (with_exponent 2 e m), exp-with_exponent 2 e m 0 (lit< tt), exp-with_exponent 2 e m 1 (lit< tt),
-            exp-with_exponent 2 e m 2 (lit< tt), exp-with_exponent 2 e m 3 (lit< tt), exp-with_exponent 2 e m 4 (lit< tt),
-            exp-with_exponent 2 e m 5 (lit< tt))
+        omega (
+          arith,
+          six_are m,
+          six_are (with_exponent 2 e m),
+          exp-with_exponent 2 e m 0 (lit< tt),
+          exp-with_exponent 2 e m 1 (lit< tt),
+          exp-with_exponent 2 e m 2 (lit< tt),
+          exp-with_exponent 2 e m 3 (lit< tt),
+          exp-with_exponent 2 e m 4 (lit< tt),
+          exp-with_exponent 2 e m 5 (lit< tt),
+        )
     by (suc (suc (suc zero))) h =
-        omega (arith, six_are m, six_are (with_exponent 3 e m), exp-with_exponent 3 e m 0 (lit< tt), exp-with_exponent 3 e m 1 (lit< tt),
-            exp-with_exponent 3 e m 2 (lit< tt), exp-with_exponent 3 e m 3 (lit< tt), exp-with_exponent 3 e m 4 (lit< tt),
-            exp-with_exponent 3 e m 5 (lit< tt))
+        omega (
+          arith,
+          six_are m,
+          six_are (with_exponent 3 e m),
+          exp-with_exponent 3 e m 0 (lit< tt),
+          exp-with_exponent 3 e m 1 (lit< tt),
+          exp-with_exponent 3 e m 2 (lit< tt),
+          exp-with_exponent 3 e m 3 (lit< tt),
+          exp-with_exponent 3 e m 4 (lit< tt),
+          exp-with_exponent 3 e m 5 (lit< tt),
+        )
     by (suc (suc (suc (suc zero)))) h =
-        omega (arith, six_are m, six_are (with_exponent 4 e m), exp-with_exponent 4 e m 0 (lit< tt), exp-with_exponent 4 e m 1 (lit< tt),
-            exp-with_exponent 4 e m 2 (lit< tt), exp-with_exponent 4 e m 3 (lit< tt), exp-with_exponent 4 e m 4 (lit< tt),
-            exp-with_exponent 4 e m 5 (lit< tt))
+        omega (
+          arith,
+          six_are m,
+          six_are (with_exponent 4 e m),
+          exp-with_exponent 4 e m 0 (lit< tt),
+          exp-with_exponent 4 e m 1 (lit< tt),
+          exp-with_exponent 4 e m 2 (lit< tt),
+          exp-with_exponent 4 e m 3 (lit< tt),
+          exp-with_exponent 4 e m 4 (lit< tt),
+          exp-with_exponent 4 e m 5 (lit< tt),
+        )
     by (suc (suc (suc (suc (suc zero))))) h =
-        omega (arith, six_are m, six_are (with_exponent 5 e m), exp-with_exponent 5 e m 0 (lit< tt), exp-with_exponent 5 e m 1 (lit< tt),
-            exp-with_exponent 5 e m 2 (lit< tt), exp-with_exponent 5 e m 3 (lit< tt), exp-with_exponent 5 e m 4 (lit< tt),
-            exp-with_exponent 5 e m 5 (lit< tt))
+        omega (
+          arith,
+          six_are m,
+          six_are (with_exponent 5 e m),
+          exp-with_exponent 5 e m 0 (lit< tt),
+          exp-with_exponent 5 e m 1 (lit< tt),
+          exp-with_exponent 5 e m 2 (lit< tt),
+          exp-with_exponent 5 e m 3 (lit< tt),
+          exp-with_exponent 5 e m 4 (lit< tt),
+          exp-with_exponent 5 e m 5 (lit< tt),
+        )
     by (suc (suc (suc (suc (suc (suc i)))))) h = absurd (omega arith)
 
 -- an array with one number written
@@ -89,4 +137,4 @@ place-name_with (suc (suc (suc (suc (suc (suc i)))))) h = absurd (omega arith)
 pub one_exponent : (i : ℕ) → i < 6 → with_exponent i 1 unit ≡ symbol (name_with i)
 one_exponent i h =
     same_mono _ _ (λ k l. exp-with_exponent i 1 unit k l ∙ ap (λ n. cond (eqb k i) 1 n) (exp-unit k l)
-        ∙ ap (λ j. cond (eqb k j) 1 0) (sym (place-name_with i h)) ∙ sym (exp-symbol (name_with i) k l))
+    ∙ ap (λ j. cond (eqb k j) 1 0) (sym (place-name_with i h)) ∙ sym (exp-symbol (name_with i) k l))

@@ -69,7 +69,7 @@ module _ {M H : Type 0} (outcome : ℕ → Outcome M H) where
       LeftEmpty ms slots slots' → Concluding outcome count least slots best fs → Concluding outcome count least slots' best fs'
   no_hit_goes count least slots slots' best fs fs' ms hit none e filled len left k =
       goes_on count least slots slots' best best fs fs' ms hit e filled len left k
-          (best_keep least best fs fs' (ms, hit) e (λ m is. ap (λ (o : Option (ℕ × H)). hits_of m (ms, o)) none) k.best_is)
+      (best_keep least best fs fs' (ms, hit) e (λ m is. ap (λ (o : Option (ℕ × H)). hits_of m (ms, o)) none) k.best_is)
 
   pub other_hit_goes : (count : ℕ) (least : Option ℕ) (slots slots' : List (Option M)) (best : Option H) (fs fs' : List (FoundValue M H))
       (ms : List (ℕ × M)) (hit : Option (ℕ × H)) (i : ℕ) (v : H) → hit ≡ Some (i, v) → ¬ (least ≡ Some i) → fs ≡ fs' ++ (ms, hit) ∷ [] →
@@ -78,7 +78,7 @@ module _ {M H : Type 0} (outcome : ℕ → Outcome M H) where
   other_hit_goes count least slots slots' best fs fs' ms hit i v is ne e filled len left k =
       goes_on count least slots slots' best best fs fs' ms hit e filled len left k
       (best_keep least best fs fs' (ms, hit) e (λ m at. ap (λ (o : Option (ℕ × H)). hits_of m (ms, o)) is
-          ∙ apart i m (λ (q : i ≡ m). ne (at ∙ ap Some (sym q)))) k.best_is)
+      ∙ apart i m (λ (q : i ≡ m). ne (at ∙ ap Some (sym q)))) k.best_is)
     where
       apart : (i m : ℕ) → i ≢ m → one_if (i == m) ≡ 0
       apart i m ne = grind (arith, nat_tests)
@@ -89,8 +89,8 @@ module _ {M H : Type 0} (outcome : ℕ → Outcome M H) where
       Concluding outcome count least slots' (Some v) fs'
   hit_goes count least slots slots' best fs fs' ms hit i v is at e filled len left k =
       let f : AreFound outcome (ms, Some (i, v)) =
-              subst (λ (o : Option (ℕ × H)). AreFound outcome (ms, o)) is
-              (the_found count least slots slots' best (Some v) fs fs' ms hit e filled len left k) in
+      subst (λ (o : Option (ℕ × H)). AreFound outcome (ms, o)) is
+      (the_found count least slots slots' best (Some v) fs fs' ms hit e filled len left k) in
       goes_on count least slots slots' best (Some v) fs fs' ms hit e filled len left k (best_new least i v fs' at f.1)
 
   nones : (n k : ℕ) (x : Option M) → slice_get (replicate n None) k ≡ Some x → k < n
@@ -132,9 +132,11 @@ same_totals f h g xs ys e = sym (sum_over-map f g xs) ∙ ap (sum_over g) e ∙ 
 
 pub covers_from : {M H : Type 0} (count : ℕ) (least : Option ℕ) (views : List Sight) (fs : List (FoundValue M H)) →
     map key_found fs ≡ map key_of views → DecidedBy count views least → Covers (bound_of count least) least fs
-covers_from {M = M} {H = H} count None views fs e d =
-    ((λ k h. let t = same_totals (key_found {M = M} {H = H}) key_of (λ (p : List ℕ × Option ℕ). times k p.0) fs views e in
-        let one : once_below k count ≡ 1 = is_one k count h in let q = d k in omega arith), tt)
+covers_from {M = M} {H = H} count None views fs e d = (
+  (λ k h. let t = same_totals (key_found {M = M} {H = H}) key_of (λ (p : List ℕ × Option ℕ). times k p.0) fs views e in
+      let one : once_below k count ≡ 1 = is_one k count h in let q = d k in omega arith),
+  tt,
+)
   where
     is_one : (p n : ℕ) → p < n → once_below p n ≡ 1
     is_one p n h = grind (arith, nat_tests)

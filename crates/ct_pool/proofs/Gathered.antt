@@ -22,7 +22,7 @@ told_at : (r r' : RootView) (count : ℕ) (l : Option ℕ) → r' ≡ r → r.co
     (r'.made ≡ length r'.joined → (next : ℕ) × Kept r'.count next l r'.joined) → (next : ℕ) × Kept count next l r.joined
 told_at r r' count l same count_is full told =
     let f : r.made ≡ length r.joined → (next : ℕ) × Kept r.count next l r.joined =
-            subst (λ (x : RootView). x.made ≡ length x.joined → (next : ℕ) × Kept x.count next l x.joined) same told in
+    subst (λ (x : RootView). x.made ≡ length x.joined → (next : ℕ) × Kept x.count next l x.joined) same told in
     subst (λ (k : ℕ). (next : ℕ) × Kept k next l r.joined) count_is (f full)
 
 -- both words, from the root's two loads

@@ -83,7 +83,7 @@ module _ {M H : Type 0} (outcome : ℕ → Outcome M H) where
   next_at first ms now now' x e o =
       let n = next_is first ms now now' x e o in
       ap (slice_get first) (sym (length_map (λ (m : M). Some m) ms)) ∙ ap (λ l. slice_get l (length (map (λ (m : M). Some m) ms))) (sym n)
-          ∙ at_here (map (λ m. Some m) ms) (reverse now') x
+      ∙ at_here (map (λ m. Some m) ms) (reverse now') x
 
   pub orders : (first : List (Option M)) (ms ms' : List M) (now now' : List (Option M)) (m : M) → AreSlots outcome first → now ≡ now' ++ Some m ∷ [] →
       ms' ≡ ms ++ m ∷ [] → Ordered first ms now → Ordered first ms' now'

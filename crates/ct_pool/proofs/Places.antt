@@ -42,10 +42,14 @@ stands (n ∷ ns) zero v e =
     let same : n ≡ live_note v = some-injective n (live_note v) e in
     (0, subst (λ m. Stands (m ∷ ns) 0 v 0) (sym same) (record { here = refl; changed = λ u. refl }))
 stands (n ∷ ns) (suc id) v e =
-    let r = stands ns id v e in
-    (length (sights_of n) + r.0,
-        record { here = get_past (sights_of n) (flat ns) r.0 v r.1.here; changed = λ u. ap (λ l. sights_of n ++ l) (r.1.changed u)
-        ∙ sym (set_past (sights_of n) (flat ns) r.0 u) })
+    let r = stands ns id v e in (
+      length (sights_of n) + r.0,
+      record {
+        here = get_past (sights_of n) (flat ns) r.0 v r.1.here;
+        changed = λ u. ap (λ l. sights_of n ++ l) (r.1.changed u)
+            ∙ sym (set_past (sights_of n) (flat ns) r.0 u);
+      },
+    )
 
 -- a worker is not the root
 pub not_root : (views : List Note) (id count made : ℕ) (joined : List Sight) (v : Sight) → get_elem? views 0 ≡ some (root_note count made joined) →
@@ -104,6 +108,6 @@ next_bound count next least views k =
     let a = past_count count next in
     let b = k.claimed (λ x. one_if (nat_le count x)) in
     let c = sum_over-below (λ v. sum_over (λ x. one_if (nat_le count x)) v.claims) (λ v. 1) views
-            (each_map (Fits count least) (λ v. sum_over (λ x. one_if (nat_le count x)) v.claims ≤ 1) views (λ v f. one_past count least v f) k.fits)
-            in
+    (each_map (Fits count least) (λ v. sum_over (λ x. one_if (nat_le count x)) v.claims ≤ 1) views (λ v f. one_past count least v f) k.fits)
+    in
     let d = ones views in omega arith

@@ -58,7 +58,7 @@ splits count id made joined id_is room s r at =
     let views' = set s.views id (root_note count (made + 1) joined) in
     let to0 : views' ≡ set s.views 0 (root_note count (made + 1) joined) = ap (λ k. set s.views k (root_note count (made + 1) joined)) id_is in
     let flat_is : flat (views' ++ live_note fresh ∷ []) ≡ flat s.views ++ fresh ∷ [] =
-            flat-append views' (live_note fresh ∷ []) ∙ ap (λ l. l ++ fresh ∷ []) (ap flat to0 ∙ g.0) in
+    flat-append views' (live_note fresh ∷ []) ∙ ap (λ l. l ++ fresh ∷ []) (ap flat to0 ∙ g.0) in
     let size = r.size in
     record {
       next = r.next;
@@ -116,7 +116,7 @@ module _ (count made : ℕ) (joined : List Sight) (u : Sight) where
       let r = left_each P ns j u e (each_there P (joined ++ []) (flat ns) k) in
       let front = each_here P joined [] (each_here P (joined ++ []) (flat ns) k) in
       each_append P ((joined ++ u ∷ []) ++ []) (flat (set ns j spent_note))
-          (each_append P (joined ++ u ∷ []) [] (each_append P joined (u ∷ []) front (r.0, tt)) tt) r.1
+      (each_append P (joined ++ u ∷ []) [] (each_append P joined (u ∷ []) front (r.0, tt)) tt) r.1
 
 -- where the root and the worker stand
 pub record Apart (count made : ℕ) (joined : List Sight) (u : Sight) (views : List Note) (other : ℕ) : Type 0 where
@@ -145,10 +145,10 @@ merges count id made other joined u id_is s r at apart there =
     let e : root_note count r.made r.joined ≡ root_note count made joined = some-injective _ _ (sym r.root ∙ at0) in
     let made_is : r.made ≡ made = ap (λ (n : Note). n.made) e in
     let now : set (set s.views id b) other spent_note ≡ b ∷ set a.rest a.at spent_note =
-            (λ i. set (set (a.views_are i) (id_is i) b) (a.other_is i) spent_note) in
+    (λ i. set (set (a.views_are i) (id_is i) b) (a.other_is i) spent_note) in
     let was : flat s.views ≡ flat (root_note count made joined ∷ a.rest) = ap flat a.views_are in
     let same : (f : Sight → ℕ) → sum_over f (flat (set (set s.views id b) other spent_note)) ≡ sum_over f (flat s.views) =
-            (λ f. ap (λ l. sum_over f (flat l)) now ∙ joined_total count made joined u f a.rest a.at a.there ∙ sym (ap (sum_over f) was)) in
+    (λ f. ap (λ l. sum_over f (flat l)) now ∙ joined_total count made joined u f a.rest a.at a.there ∙ sym (ap (sum_over f) was)) in
     record {
       next = r.next;
       least = r.least;
@@ -211,7 +211,7 @@ back count made id joined s r id_is at full =
 
 pub tells_next : {S : Type 0} (count slots id made : ℕ) (joined : List Sight) → id ≡ 0
     → Allows {S = S} {V = Note} (IsRuled count) slots id (root_note count made joined, []) 0 (λ n. n)
-        (λ n w. (w ≡ (root_note count made joined, [])) × (made ≡ length joined → (least : Option ℕ) × Kept count n least joined))
+    (λ n w. (w ≡ (root_note count made joined, [])) × (made ≡ length joined → (least : Option ℕ) × Kept count n least joined))
 tells_next count slots id made joined id_is s r len at fits =
     let n = slice_index s.words 0 in
     let is : n ≡ r.next = word0 s.words r.next (word_of r.least) r.words in
@@ -225,7 +225,7 @@ tells_next count slots id made joined id_is s r len at fits =
 
 pub tells_least : {S : Type 0} (count slots id made : ℕ) (joined : List Sight) → id ≡ 0
     → Allows {S = S} {V = Note} (IsRuled count) slots id (root_note count made joined, []) 1 (λ n. n)
-        (λ n w. (w ≡ (root_note count made joined, [])) × (made ≡ length joined → (next : ℕ) × Kept count next (least_of n) joined))
+    (λ n w. (w ≡ (root_note count made joined, [])) × (made ≡ length joined → (next : ℕ) × Kept count next (least_of n) joined))
 tells_least count slots id made joined id_is s r len at fits =
     let n = slice_index s.words 1 in
     let is : n ≡ word_of r.least = word1 s.words r.next (word_of r.least) r.words in
@@ -249,7 +249,7 @@ pub merges_as : {S : Type 0} (count id other : ℕ) (v w : Note) → v ≡ root_
     Joins {S = S} {V = Note} (IsRuled count) id v other w (root_note v.count v.made (v.joined ++ w.sight ∷ [])) spent_note
 merges_as {S = S} count id other v w is is' id_is =
     let P : Note → Note → Type 0 =
-            λ m n. Joins {S = S} {V = Note} (IsRuled count) id m other n (root_note m.count m.made (m.joined ++ n.sight ∷ [])) spent_note in
+    λ m n. Joins {S = S} {V = Note} (IsRuled count) id m other n (root_note m.count m.made (m.joined ++ n.sight ∷ [])) spent_note in
     subst (λ m. P m w) (sym is) (subst (P (root_note count v.made v.joined)) (sym is') (merges {S = S} count id v.made other v.joined w.sight id_is))
 
 pub tells_next_as : {S : Type 0} (count slots id : ℕ) (me : Me S Note) → me ≡ (root_note count me.0.made me.0.joined, []) → id ≡ 0 →
@@ -257,8 +257,8 @@ pub tells_next_as : {S : Type 0} (count slots id : ℕ) (me : Me S Note) → me 
     (λ n w. (w ≡ me) × (AllBack me.0 → (least : Option ℕ) × Kept me.0.count n least me.0.joined))
 tells_next_as {S = S} count slots id me is id_is =
     let P : Me S Note → Type 0 =
-            λ m. Allows {S = S} {V = Note} (IsRuled count) slots id m 0 (λ n. n)
-            (λ n w. (w ≡ m) × (AllBack m.0 → (least : Option ℕ) × Kept m.0.count n least m.0.joined)) in
+    λ m. Allows {S = S} {V = Note} (IsRuled count) slots id m 0 (λ n. n)
+    (λ n w. (w ≡ m) × (AllBack m.0 → (least : Option ℕ) × Kept m.0.count n least m.0.joined)) in
     subst P (sym is) (tells_next {S = S} count slots id me.0.made me.0.joined id_is)
 
 pub tells_least_as : {S : Type 0} (count slots id : ℕ) (me : Me S Note) → me ≡ (root_note count me.0.made me.0.joined, []) → id ≡ 0 →
@@ -266,8 +266,8 @@ pub tells_least_as : {S : Type 0} (count slots id : ℕ) (me : Me S Note) → me
     (λ n w. (w ≡ me) × (AllBack me.0 → (next : ℕ) × Kept me.0.count next (least_of n) me.0.joined))
 tells_least_as {S = S} count slots id me is id_is =
     let P : Me S Note → Type 0 =
-            λ m. Allows {S = S} {V = Note} (IsRuled count) slots id m 1 (λ n. n)
-            (λ n w. (w ≡ m) × (AllBack m.0 → (next : ℕ) × Kept m.0.count next (least_of n) m.0.joined)) in
+    λ m. Allows {S = S} {V = Note} (IsRuled count) slots id m 1 (λ n. n)
+    (λ n w. (w ≡ m) × (AllBack m.0 → (next : ℕ) × Kept m.0.count next (least_of n) m.0.joined)) in
     subst P (sym is) (tells_least {S = S} count slots id me.0.made me.0.joined id_is)
 
 pub splits_key : {S : Type 0} (key id : ℕ) (me : Me S Note) → me.0.count ≡ key → me ≡ (root_note me.0.count me.0.made me.0.joined, []) → id ≡ 0 →

@@ -105,7 +105,7 @@ claims count slots id v may s r len at fits =
       rule_after count s _ id v (claims_at v n0) (r.next + 1) r.least r at refl
           (ap (λ l. set l 0 ((n0 + 1) % 2 ^ 64)) r.words ∙ ap (λ k. k ∷ word_of r.least ∷ []) (no_wrap n0 here ∙ ap (λ k. k + 1) is))
           (λ k there. subst (λ m. Kept count (r.next + 1) r.least (set (flat s.views) k (claims_at v m))) (sym is)
-              (claims_twice count r.next r.least (flat s.views) k v v.pending refl there may r.kept)),
+          (claims_twice count r.next r.least (flat s.views) k v v.pending refl there may r.kept)),
       (refl, subst (λ m. IfSome v.pending (λ p. p < m)) (sym is) (pending_below count r.next r.least s.views id v at r.kept)),
     )
 
@@ -129,7 +129,7 @@ looks count slots id v may s r len at fits =
       rule_after count s _ id v (looks_at v n) r.next r.least r at refl
           (ap (λ l. set l 1 n) r.words ∙ ap (λ k. r.next ∷ k ∷ []) is)
           (λ k there. subst (λ (o : Option ℕ). Kept count r.next r.least (set (flat s.views) k (view_after 0 o v (Look 0)))) (sym least_is)
-              (keeps count r.next r.least (flat s.views) k v (Look 0) there may r.kept)),
+          (keeps count r.next r.least (flat s.views) k v (Look 0) there may r.kept)),
       refl,
     )
 
@@ -164,10 +164,10 @@ hits count slots id v i may s r len at fits =
 -- the same, as the calls ask it
 pub claims_as : {S : Type 0} (count slots id : ℕ) (me : Me S Note) → me ≡ (live_note me.0.sight, []) → may_claim me.0.sight me.0.sight.pending ≡ true
     → Allows {S = S} {V = Note} (IsRuled count) slots id me 0 (λ n. (n + 1) % 2 ^ 64)
-        (λ n w. (w ≡ (live_note (claims_at me.0.sight n), me.1)) × IfSome me.0.sight.pending (λ p. p < n))
+    (λ n w. (w ≡ (live_note (claims_at me.0.sight n), me.1)) × IfSome me.0.sight.pending (λ p. p < n))
 claims_as {S = S} count slots id me is may =
     let P : Me S Note → Type 0 = λ m. Allows {S = S} {V = Note} (IsRuled count) slots id m 0 (λ n. (n + 1) % 2 ^ 64)
-            (λ n w. (w ≡ (live_note (claims_at m.0.sight n), m.1)) × IfSome m.0.sight.pending (λ p. p < n)) in
+    (λ n w. (w ≡ (live_note (claims_at m.0.sight n), m.1)) × IfSome m.0.sight.pending (λ p. p < n)) in
     subst P (sym is) (claims {S = S} count slots id me.0.sight may)
 
 pub looks_as : {S : Type 0} (count key slots id : ℕ) (me : Me S Note) → key ≡ count → me ≡ (live_note me.0.sight, []) →
@@ -175,12 +175,12 @@ pub looks_as : {S : Type 0} (count key slots id : ℕ) (me : Me S Note) → key 
     → Allows {S = S} {V = Note} (IsRuled key) slots id me 1 (λ n. n) (λ n w. w ≡ (live_note (looks_at me.0.sight n), me.1))
 looks_as {S = S} count key slots id me key_is is may =
     let P : Me S Note → Type 0 =
-            λ m. Allows {S = S} {V = Note} (IsRuled key) slots id m 1 (λ n. n) (λ n w. w ≡ (live_note (looks_at m.0.sight n), m.1)) in
+    λ m. Allows {S = S} {V = Note} (IsRuled key) slots id m 1 (λ n. n) (λ n w. w ≡ (live_note (looks_at m.0.sight n), m.1)) in
     subst P (sym is) (looks {S = S} key slots id me.0.sight (ap (λ k. is_legal k me.0.sight (Look 0)) key_is ∙ may))
 
 pub hits_as : {S : Type 0} (count slots id i : ℕ) (me : Me S Note) → me ≡ (live_note me.0.sight, []) → may_end me.0.sight i ≡ true
     → Allows {S = S} {V = Note} (IsRuled count) slots id me 1 (λ n. min n i) (λ n w. w ≡ (live_note (hits_at me.0.sight i), me.1))
 hits_as {S = S} count slots id i me is may =
     let P : Me S Note → Type 0 = λ m. Allows {S = S} {V = Note} (IsRuled count) slots id m 1 (λ n. min n i)
-            (λ n w. w ≡ (live_note (hits_at m.0.sight i), m.1)) in
+    (λ n w. w ≡ (live_note (hits_at m.0.sight i), m.1)) in
     subst P (sym is) (hits {S = S} count slots id me.0.sight i may)

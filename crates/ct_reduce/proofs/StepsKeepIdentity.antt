@@ -121,7 +121,7 @@ module _ (a : Name → Action) where
           ap (λ n. multiple a n p) w.scale_is ∙ multiple-multiple a m s.scale p ∙ ap (multiple a m) r.identity
           ∙ multiple-sum a m _ _
           ∙ ap₂ sum_of_operators (multiple-combination m s.cofactors generators ∙ ap (λ cs. combination a cs generators) (sym w.cofactors_are))
-              (sym w.rest_is);
+          (sym w.rest_is);
     }
 
     pub taken_reduces :

@@ -41,8 +41,12 @@ certificate_fits names generators r c on fits =
           ∙ summands_of-names (summed_of names) quotients.value factors.value
           (omega (arith, each_length (λ _ q. checked_quotient a q) 1 r.quotients quotients.value quotients.first, on.each_quotient))
           (omega (arith, each_length (λ _ x. checked_polynomial a x) 1 r.factors factors.value factors.first, on.each_factor));
-      cofactors = omega (arith, ap (λ (d : Certificate). length d.cofactors) whole,
-          each_length (λ _ x. value_of a x) 1 r.cofactors cofactors.value cofactors.first, on.each_cofactor);
+      cofactors = omega (
+        arith,
+        ap (λ (d : Certificate). length d.cofactors) whole,
+        each_length (λ _ x. value_of a x) 1 r.cofactors cofactors.value cofactors.first,
+        on.each_cofactor,
+      );
     }
 
 -- a generator for each `gen` line

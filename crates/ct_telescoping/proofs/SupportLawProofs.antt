@@ -34,8 +34,10 @@ of_support a summed d element order degree once distinct = record {
   distinct = columns_distinct a summed d element order degree once distinct;
   sound = columns_sound a summed d element order degree;
   complete = columns_complete a summed d element order degree;
-  certificates_first = λ i below. (telescopers_from a summed d element order degree i below,
-      from_telescopers a summed d element order degree i below);
+  certificates_first = λ i below. (
+    telescopers_from a summed d element order degree i below,
+    from_telescopers a summed d element order degree i below,
+  );
 }
 
 pub is_made : SystemIsMade
@@ -164,7 +166,7 @@ module _ (t : Task) (task : IsTestedTask t) (commutes : TaskCommutes t) (order d
       none : r.rest ≡ no_operator
       none =
           (decide t.actions t.generators t.dimension t.element t.rows task.tested commutes (residual t.actions c)).rest_is_zero r reduction over
-              reduced dies
+          reduced dies
 
 pub certify : AssemblyCertifies
 certify t task commutes order degree denominators nonzero n matrix system weight null c assembled =

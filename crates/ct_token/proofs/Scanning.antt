@@ -32,10 +32,10 @@ scanned-piece is_fresh at (b ∷ bs) p e some le =
     let place : at + 1 + (piece_len p - 1) ≡ at + piece_len p = omega arith in
     let rest : drop (piece_len p - 1) bs ≡ drop (piece_len p) (b ∷ bs) = ap (λ (k : ℕ). drop k (b ∷ bs)) (sym more) in
     let skipped : scanned (fresh_after is_fresh p) (at + 1) (piece_len p - 1) bs ≡ scanned (fresh_after is_fresh p) (at + piece_len p) 0
-            (drop (piece_len p) (b ∷ bs)) =
+    (drop (piece_len p) (b ∷ bs)) =
     scanned-skip (fresh_after is_fresh p) (at + 1) (piece_len p - 1) bs (omega arith)
-        ∙ ap (λ (k : ℕ). scanned (fresh_after is_fresh p) k 0 (drop (piece_len p - 1) bs)) place
-        ∙ ap (λ (t : List ℕ). scanned (fresh_after is_fresh p) (at + piece_len p) 0 t) rest in
+    ∙ ap (λ (k : ℕ). scanned (fresh_after is_fresh p) k 0 (drop (piece_len p - 1) bs)) place
+    ∙ ap (λ (t : List ℕ). scanned (fresh_after is_fresh p) (at + piece_len p) 0 t) rest in
     step ∙ ap (λ (o : Scanned). with_piece p at o) skipped
 
 -- a turn of the scan: at is the place of the rest of the text
@@ -48,7 +48,7 @@ goes_on front is_fresh at text p total e some le so_far =
     let one = scanned-piece is_fresh at (drop at text) p e some room in
     let far : drop (piece_len p) (drop at text) ≡ drop (at + piece_len p) text = drop-drop (piece_len p) at text in
     ap (λ (t : List ℕ). with_front front (with_piece p at (scanned (fresh_after is_fresh p) (at + piece_len p) 0 t))) (sym far)
-        ∙ ap (with_front front) (sym one) ∙ so_far
+    ∙ ap (with_front front) (sym one) ∙ so_far
 
 pub after_token : (front : List Token) (t : Token) (others : Scanned) →
     with_front (front ++ t ∷ []) others ≡ with_front front (record { tokens = t ∷ others.tokens; bad = others.bad })
@@ -61,7 +61,7 @@ unfolding scanned
 is_done front is_fresh at text total le so_far =
     let none : drop at text ≡ [] = drop_all at text le in
     let end : with_front front (scanned is_fresh at 0 (drop at text)) ≡ record { tokens = front; bad = None } =
-            rw none (ap (λ (ts : List Token). let s : Scanned = record { tokens = ts; bad = None } in s) (append-nil front)) in
+    rw none (ap (λ (ts : List Token). let s : Scanned = record { tokens = ts; bad = None } in s) (append-nil front)) in
     sym so_far ∙ end
 
 pub is_bad : (front : List Token) (is_fresh : Bool) (at : ℕ) (text : List ℕ) (total : Scanned) → at < length text →

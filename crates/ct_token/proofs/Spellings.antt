@@ -119,7 +119,7 @@ lexeme_is is_fresh b bs symbol n e =
   where
     by : (blank comment ends fresh letter digit dots printable : Bool)
         → not (line_end_len (b ∷ bs) == 0) ≡ ends → is_letter b ≡ letter → is_digit b ≡ digit → starts_dots (b ∷ bs) ≡ dots →
-            is_printable b ≡ printable
+        is_printable b ≡ printable
         → cond blank (Gap 1)
         (cond comment (Gap (comment_len (b ∷ bs)))
         (cond ends (cond fresh (Gap (line_end_len (b ∷ bs))) (Lexeme LineEnd (line_end_len (b ∷ bs))))

@@ -43,8 +43,8 @@ scanned_are bytes is_fresh at (suc skip) (b ∷ bs) e =
     AreTokens-earlier bytes (at + suc skip) (at + 1 + skip) _ (omega arith) (scanned_are bytes is_fresh (at + 1) skip bs (one_on bytes bs b at e))
 scanned_are bytes is_fresh at zero (b ∷ bs) e =
     by (piece_of is_fresh (b ∷ bs)) refl
-        (scanned_are bytes (fresh_after is_fresh (piece_of is_fresh (b ∷ bs))) (at + 1) (piece_len (piece_of is_fresh (b ∷ bs)) - 1) bs
-        (one_on bytes bs b at e))
+    (scanned_are bytes (fresh_after is_fresh (piece_of is_fresh (b ∷ bs))) (at + 1) (piece_len (piece_of is_fresh (b ∷ bs)) - 1) bs
+    (one_on bytes bs b at e))
   where
     by : (p : Piece) → piece_of is_fresh (b ∷ bs) ≡ p
         → AreTokens bytes (at + 1 + (piece_len p - 1)) (scanned (fresh_after is_fresh p) (at + 1) (piece_len p - 1) bs).tokens

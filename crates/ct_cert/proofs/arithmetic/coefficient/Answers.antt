@@ -13,4 +13,4 @@ returns-in-Derive c =
 pub returns-in-Still : goal.returns-in-Still
 returns-in-Still c =
     coefficient_for (actions_of c.args.algebra.now) Still (summand_of c.args.part.now) c.in-Still.ensures (Ok c.zero.result)
-        (ap Ok (sym c.zero.ensures))
+    (ap Ok (sym c.zero.ensures))

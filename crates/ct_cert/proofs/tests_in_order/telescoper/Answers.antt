@@ -7,7 +7,7 @@ use Rattle.ct_cert.proofs.tests_in_order.telescoper.Goals as goal
 pub returns-then-is_zero : goal.returns-then-is_zero
 returns-then-is_zero c =
     subst (λ t. AnswersTest t c.ending.result)
-        (zero_telescoper (names_of c.args.parts.now) c.args.op.now c.is_zero.result c.is_zero.ensures c.if-is_zero.true) c.ending.ensures
+    (zero_telescoper (names_of c.args.parts.now) c.args.op.now c.is_zero.result c.is_zero.ensures c.if-is_zero.true) c.ending.ensures
 
 pub returns : goal.returns
 returns c =

@@ -9,7 +9,7 @@ pub returns-then-eq : goal.returns-then-eq
 returns-then-eq c =
     let is_one : mono_eq c.term-item.result.mono unit ≡ true = rw c.one-one.ensures at (sym c.eq.ensures ∙ c.if-eq.true) in
     subst (λ (q : Polynomial). IfOk c.copy.result (λ p. p ≡ q))
-        (one_is_there c.args.value.now _ _ c.term-item.result c.loop-term-test.true c.term-item.is is_one c.loop-term.invariant) c.copy.ensures.value
+    (one_is_there c.args.value.now _ _ c.term-item.result c.loop-term-test.true c.term-item.is is_one c.loop-term.invariant) c.copy.ensures.value
 
 pub loop-term-preserved : goal.loop-term-preserved
 loop-term-preserved c =

@@ -17,7 +17,7 @@ parting-preserved c =
       c.parting.invariant.0
           ∙ ap (checked_without_parts (name_with c.args.i) c.args.n.now c.parting.left (take k all)) list
           ∙ part_taken (name_with c.args.i) c.args.n.now c.parting.left c.in_ok-part.part c.in_ok-left.left
-              (take k all) f more part c.in_ok-left.ensures
+          (take k all) f more part c.in_ok-left.ensures
           ∙ ap (λ fs. checked_without_parts (name_with c.args.i) c.args.n.now c.in_ok-left.left fs more) (sym taken),
       ap (λ fs. fs ++ more) taken ∙ append_assoc (take k all) (f ∷ []) more ∙ seam,
       omega (arith, c.parting.invariant.2, ap length list),

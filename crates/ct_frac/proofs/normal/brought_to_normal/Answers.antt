@@ -12,13 +12,13 @@ returns-then-is_zero c =
 pub cancelled-requires-clause-written : goal.cancelled-requires-clause-written
 cancelled-requires-clause-written c =
     let some : c.args.n ≢ polys.zero = λ zero. let told : IsTrue c.is_zero.result = c.is_zero.ensures.1 zero in
-            let no : c.is_zero.result ≡ false = c.if-is_zero.false in grind (arith, common_steps) in
+    let no : c.is_zero.result ≡ false = c.if-is_zero.false in grind (arith, common_steps) in
     subst IsWritten (sym (ap₂ in_lowest_terms (c.in_ok-rest.ensures ∙ ap (lowered c.args.n []) c.factors.ensures) c.whole.ensures))
     (lowest_written c.args.n c.args.den.now c.in_written_form.ensures some)
 
 pub returns : goal.returns
 returns c =
     let some : c.args.n ≢ polys.zero = λ zero. let told : IsTrue c.is_zero.result = c.is_zero.ensures.1 zero in
-            let no : c.is_zero.result ≡ false = c.if-is_zero.false in grind (arith, common_steps) in
+    let no : c.is_zero.result ≡ false = c.if-is_zero.false in grind (arith, common_steps) in
     c.in_ok-r.ensures ∙ ap₂ in_lowest_terms (c.in_ok-rest.ensures ∙ ap (lowered c.args.n []) c.factors.ensures) c.whole.ensures
     ∙ normal-nonzero c.args.n c.args.den.now some

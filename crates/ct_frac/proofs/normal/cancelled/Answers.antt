@@ -19,18 +19,18 @@ pub invariant_of-den : goal.invariant_of-den
 invariant_of-den c =
     let is = subst (λ m. IsGcd m c.args.whole c.gcd-divisor.result) c.content.ensures.value c.gcd-divisor.ensures in
     let made = cancelled_is c.args.rest.numerator c.in_ok-numerator.numerator c.args.whole c.gcd-divisor.result c.args.rest.factors.items
-            c.requires.positive is c.in_ok-numerator.ensures in
+    c.requires.positive is c.in_ok-numerator.ensures in
     subst (λ w. IsDenominator w.den) (sym made) c.requires.written.den
 
 pub invariant_of-result : goal.invariant_of-result
 invariant_of-result c =
     let is = subst (λ m. IsGcd m c.args.whole c.gcd-divisor.result) c.content.ensures.value c.gcd-divisor.ensures in
     let made = cancelled_is c.args.rest.numerator c.in_ok-numerator.numerator c.args.whole c.gcd-divisor.result c.args.rest.factors.items
-            c.requires.positive is c.in_ok-numerator.ensures in
+    c.requires.positive is c.in_ok-numerator.ensures in
     subst IsWritten (sym made) c.requires.written
 
 pub returns : goal.returns
 returns c =
     let is = subst (λ m. IsGcd m c.args.whole c.gcd-divisor.result) c.content.ensures.value c.gcd-divisor.ensures in
     cancelled_is c.args.rest.numerator c.in_ok-numerator.numerator c.args.whole c.gcd-divisor.result c.args.rest.factors.items c.requires.positive is
-        c.in_ok-numerator.ensures
+    c.in_ok-numerator.ensures

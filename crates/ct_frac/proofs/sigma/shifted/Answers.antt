@@ -11,7 +11,7 @@ invariant_of-den c =
     let whole : c.whole.result ≡ c.args.f.now.den.whole = search rules in
     subst (λ n. IsDenominator (record { whole = n; factors = c.in_ok-factors.factors.items })) (sym whole)
     (shifted_written (name_with c.args.i) c.args.f.now c.in_ok-numerator.numerator c.in_ok-factors.factors.items c.in_written_form.ensures made
-        factors).den
+    factors).den
 
 pub invariant_of-result : goal.invariant_of-result
 invariant_of-result c =
@@ -19,6 +19,6 @@ invariant_of-result c =
     let factors : checked_shifted_factors (name_with c.args.i) [] c.args.f.now.den.factors ≡ Ok c.in_ok-factors.factors.items = search rules in
     let whole : c.whole.result ≡ c.args.f.now.den.whole = search rules in
     subst (λ n. IsWritten (record { numerator = c.in_ok-numerator.numerator; den = record { whole = n; factors = c.in_ok-factors.factors.items } }))
-        (sym whole)
+    (sym whole)
     (shifted_written (name_with c.args.i) c.args.f.now c.in_ok-numerator.numerator c.in_ok-factors.factors.items c.in_written_form.ensures made
-        factors)
+    factors)

@@ -16,7 +16,7 @@ returns-else-unsigned_abs c =
     let first_read : c.unsigned_abs.result ≡ unsigned_abs x = c.unsigned_abs.ensures.value ∙ ap unsigned_abs (to_z-of_z w128 x (search rules)) in
     let second_read : c.unsigned_abs-2.result ≡ unsigned_abs y = c.unsigned_abs-2.ensures.value ∙ ap unsigned_abs (to_z-of_z w128 y (search rules)) in
     let sizes : unsigned_abs x + unsigned_abs y ≤ largest_whole =
-            omega (arith, first_read, second_read, c.if-unsigned_abs.false, c.in_ok-first.ensures.1) in
+    omega (arith, first_read, second_read, c.if-unsigned_abs.false, c.in_ok-first.ensures.1) in
     let sum : cast_signed w128 (cast_unsigned w128 (cast_signed w128 (cast_unsigned w128 x) +ℤ cast_signed w128 (cast_unsigned w128 y))) ≡ x +ℤ y =
-            omega (arith, ints, sizes) in
+    omega (arith, ints, sizes) in
     (sum ∙ ap₂ (λ m n. m +ℤ n) first second, omega (arith, sizes, first_size, second_size))

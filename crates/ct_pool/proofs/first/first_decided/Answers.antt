@@ -13,8 +13,8 @@ some_view f xs workers some size = let same = length-map xs f in omega arith
 pub results_of-requires-clause-team : goal.results_of-requires-clause-team
 results_of-requires-clause-team g c κs within =
     let P : Worker g.row.J-Miss.Denot g.row.J-Hit.Denot → Type 0 =
-            λ w. (w.pass.table ≡ c.in_ok-claims.claims.table) × (w.starved ≡ false →
-            IsFound (g.J.Job.outcome c.args.job.now) c.in_ok-claims.claims.count w.pass.sight w.misses.items w.hit) in
+    λ w. (w.pass.table ≡ c.in_ok-claims.claims.table) × (w.starved ≡ false →
+    IsFound (g.J.Job.outcome c.args.job.now) c.in_ok-claims.claims.count w.pass.sight w.misses.items w.hit) in
     subst (All P) (sym (slice_back c.in_ok-team.team.len c.work_all.new.workers _ (search rules))) c.work_all.ensures.found
 
 pub conclude-requires-clause-covers : goal.conclude-requires-clause-covers

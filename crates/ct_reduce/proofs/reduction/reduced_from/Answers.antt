@@ -11,18 +11,18 @@ reducing-init c =
 pub taken-requires : goal.taken-requires
 taken-requires c =
     place_known (actions_of c.args.algebra.now) c.args.generators.now (reduction_of c.reducing.state) (reducible_of c.in-Some.reducible)
-        (step_of c.in_ok-step.step) (reduction_of c.in_ok-multiplied.multiplied) c.in-Some.ensures c.in_ok-step.ensures c.in_ok-multiplied.ensures
-        c.reducing.invariant.1
+    (step_of c.in_ok-step.step) (reduction_of c.in_ok-multiplied.multiplied) c.in-Some.ensures c.in_ok-step.ensures c.in_ok-multiplied.ensures
+    c.reducing.invariant.1
 
 pub reducing-smaller : goal.reducing-smaller
 reducing-smaller c =
     (turned (actions_of c.args.algebra.now) c.args.generators.now (reduction_of c.reducing.state) (reducible_of c.in-Some.reducible)
-        (step_of c.in_ok-step.step) (reduction_of c.in_ok-multiplied.multiplied) c.in-Some.ensures c.in_ok-step.ensures c.in_ok-multiplied.ensures
-        (reduction_of c.in_ok-state.state) c.in_ok-state.ensures).rank_falls
+    (step_of c.in_ok-step.step) (reduction_of c.in_ok-multiplied.multiplied) c.in-Some.ensures c.in_ok-step.ensures c.in_ok-multiplied.ensures
+    (reduction_of c.in_ok-state.state) c.in_ok-state.ensures).rank_falls
 
 pub reducing-preserved : goal.reducing-preserved
 reducing-preserved c =
     let t = turned (actions_of c.args.algebra.now) c.args.generators.now (reduction_of c.reducing.state) (reducible_of c.in-Some.reducible)
-            (step_of c.in_ok-step.step) (reduction_of c.in_ok-multiplied.multiplied) c.in-Some.ensures c.in_ok-step.ensures c.in_ok-multiplied.ensures
-            (reduction_of c.in_ok-state.state) c.in_ok-state.ensures in
+    (step_of c.in_ok-step.step) (reduction_of c.in_ok-multiplied.multiplied) c.in-Some.ensures c.in_ok-step.ensures c.in_ok-multiplied.ensures
+    (reduction_of c.in_ok-state.state) c.in_ok-state.ensures in
     (c.reducing.invariant.0 ∙ t.same, t.length_kept ∙ c.reducing.invariant.1)

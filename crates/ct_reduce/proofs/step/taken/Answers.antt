@@ -19,8 +19,8 @@ pub returns : goal.returns
 returns c =
     let place = c.args.step.now.place in
     let was = c.replace-cofactor.ensures.value
-            ∙ get_or_read c.args.s.cofactors.items place c.index_mut.result.now c.requires c.index_mut.ensures.value no_operator in
+    ∙ get_or_read c.args.s.cofactors.items place c.index_mut.result.now c.requires c.index_mut.ensures.value no_operator in
     taken_is (actions_of c.args.algebra.now) (step_of c.args.step.now)
-        (reduction_of c.args.s) c.in_ok-product.product c.in_ok-rest.rest c.in_ok-cofactors.field-0 _ c.in_ok-product.ensures c.in_ok-rest.ensures
+    (reduction_of c.args.s) c.in_ok-product.product c.in_ok-rest.rest c.in_ok-cofactors.field-0 _ c.in_ok-product.ensures c.in_ok-rest.ensures
     (ap₂ checked_sum (sym was) (sym c.in_ok-copy.ensures.value) ∙ c.in_ok-cofactors.ensures)
     (set-set c.args.s.cofactors.items place c.replace-cofactor.new.dest c.in_ok-cofactors.field-0)

@@ -9,7 +9,7 @@ line_of_tests-requires c =
     let p = c.args.problem.now in
     let names = p.algebra in
     let fits = certificate_fits names (length (listed p.gens)) c.args.report.now (certificate_of c.in-Ok-certificate.answer) c.requires
-            (search rules) in
+    (search rules) in
     let valued : checked_setup (reading_of p) ≡ Ok c.in-Ok.generators.items = search rules in
     record {
       named = λ k d small. record { known = c.in-Ok-certificate.ensures.known k d small; few = p.formed.names.few };

@@ -7,4 +7,4 @@ pub returns : goal.returns
 returns c =
     let names = c.args.problem.now.let_names.items in
     ap not (empty_definitions (map string_bytes names) c.args.problem.now.lets (length-map names string_bytes
-        ∙ c.args.problem.now.formed.a_name_each) c.is_empty.result c.is_empty.ensures)
+    ∙ c.args.problem.now.formed.a_name_each) c.is_empty.result c.is_empty.ensures)

@@ -26,7 +26,7 @@ loop-at-preserved c =
     let here = sym c.in-Lexeme.ensures.piece in
     let piece = rw c.split_at.ensures.back at here in
     let far = goes_on c.loop-at.tokens.items c.loop-at.is_fresh c.loop-at.at c.args.text.now
-            (Lexeme c.in-Lexeme.symbol c.in-Lexeme.len) _ piece fits.0 (omega (arith, size, fits)) c.loop-at.invariant.so_far in
+    (Lexeme c.in-Lexeme.symbol c.in-Lexeme.len) _ piece fits.0 (omega (arith, size, fits)) c.loop-at.invariant.so_far in
     record {
       within = omega (arith, size, fits);
       so_far = rw (c.in_ok-push-in-Lexeme.ensures.items, c.is_line_end-is_fresh.ensures) (after_token c.loop-at.tokens.items _ _ ∙ far);

@@ -3,10 +3,15 @@ use Rattle.ct_core.proofs.RunsKeep.{refuses, accepts}
 use Rattle.ct_core.proofs.state.State.step.Goals as goal
 
 pub returns-then-not-allows : goal.returns-then-not-allows
-returns-then-not-allows c =
-    (refl, (refl, rw (← c.self.view_is)
+returns-then-not-allows c = (
+  refl,
+  (
+    refl,
+    rw (← c.self.view_is)
         (refuses _ c.args.event c.index-view.result.now c.worker-worker.result c.worker-worker.ensures (omega arith) c.index-view.ensures
-        (sym c.if-not-allows.true ∙ c.allows.ensures))))
+        (sym c.if-not-allows.true ∙ c.allows.ensures)),
+  ),
+)
 
 pub returns : goal.returns
 returns c = rw (← c.self.view_is)

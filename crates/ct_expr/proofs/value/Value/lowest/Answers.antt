@@ -10,26 +10,26 @@ returns-then-whole-eq1 c =
 pub over_whole-requires-clause-within : goal.over_whole-requires-clause-within
 over_whole-requires-clause-within c =
     let fits = subst (Divides c.args.operator c.args.whole) (sym c.common_divisor-divisor.ensures)
-            (divisor_fits c.args.operator c.args.whole c.requires.some) in
+    (divisor_fits c.args.operator c.args.whole c.requires.some) in
     omega (arith, fits.within, c.requires.within)
 
 pub over_whole-requires-clause-divides : goal.over_whole-requires-clause-divides
 over_whole-requires-clause-divides c =
     (subst (Divides c.args.operator c.args.whole) (sym c.common_divisor-divisor.ensures)
-        (divisor_fits c.args.operator c.args.whole c.requires.some)).operator
+    (divisor_fits c.args.operator c.args.whole c.requires.some)).operator
 
 pub nonzero_div-result : goal.nonzero_div-result
 nonzero_div-result c =
     (subst (Divides c.args.operator c.args.whole) (sym c.common_divisor-divisor.ensures)
-        (divisor_fits c.args.operator c.args.whole c.requires.some)).some
+    (divisor_fits c.args.operator c.args.whole c.requires.some)).some
 
 pub invariant_of-result : goal.invariant_of-result
 invariant_of-result c =
     let fits = subst (Divides c.args.operator c.args.whole) (sym c.common_divisor-divisor.ensures)
-            (divisor_fits c.args.operator c.args.whole c.requires.some) in
+    (divisor_fits c.args.operator c.args.whole c.requires.some) in
     let is : IsFactor (c.args.whole / c.common_divisor-divisor.result) =
-            quotient_fits c.args.whole c.common_divisor-divisor.result
-            (record { some = c.requires.some; within = c.requires.within }) fits.some fits.number in
+    quotient_fits c.args.whole c.common_divisor-divisor.result
+    (record { some = c.requires.some; within = c.requires.within }) fits.some fits.number in
     record { positive = is.some; within = is.within }
 
 pub returns : goal.returns

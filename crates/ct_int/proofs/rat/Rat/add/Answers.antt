@@ -17,7 +17,7 @@ returns-in_err-num-clause-overflows c =
     let mine = to_z-of_z w128 c.self.inside.num (search rules) in
     let its = to_z-of_z w128 c.other.inside.num (search rules) in
     let measure = ap₂ (λ x y. unsigned_abs x * (c.other.inside.den / c.gcd-divisor.result) + unsigned_abs y *
-            (c.self.inside.den / c.gcd-divisor.result)) mine its in
+    (c.self.inside.den / c.gcd-divisor.result)) mine its in
     rw (exit.1, exit.2, ← c.self.view_is, ← c.other.view_is) (
       c.in_err-num.ensures.0,
       record {
@@ -36,31 +36,31 @@ returns-in_err-den-clause-overflows c =
 pub reduced-requires-clause-positive : goal.reduced-requires-clause-positive
 reduced-requires-clause-positive c =
     subst (λ n. 0 < n) (sym c.in_ok-den.ensures.0)
-        (sum_den-positive (ratio c.self.inside.num (pos c.self.inside.den))
-        (ratio c.other.inside.num (pos c.other.inside.den)) c.gcd-divisor.result c.self.invariant.lowest c.other.invariant.lowest
-        c.gcd-divisor.ensures)
+    (sum_den-positive (ratio c.self.inside.num (pos c.self.inside.den))
+    (ratio c.other.inside.num (pos c.other.inside.den)) c.gcd-divisor.result c.self.invariant.lowest c.other.invariant.lowest
+    c.gcd-divisor.ensures)
 
 pub returns-clause-value : goal.returns-clause-value
 returns-clause-value c =
     let mine = to_z-of_z w128 c.self.inside.num (search rules) in
     let its = to_z-of_z w128 c.other.inside.num (search rules) in
     let num = to_z-of_z w128 c.in_ok-num.num (search rules) ∙ c.in_ok-num.ensures.0
-            ∙ ap₂ (λ x y. x *ℤ pos (c.other.inside.den / c.gcd-divisor.result) +ℤ y *ℤ pos (c.self.inside.den / c.gcd-divisor.result)) mine its in
+    ∙ ap₂ (λ x y. x *ℤ pos (c.other.inside.den / c.gcd-divisor.result) +ℤ y *ℤ pos (c.self.inside.den / c.gcd-divisor.result)) mine its in
     let terms = subst (λ r. IsLowestTerms r c.reduced.result) (ap₂ (λ n d. ratio n (pos d)) num c.in_ok-den.ensures.0) c.reduced.ensures in
     rw (← c.self.view_is, ← c.other.view_is)
     (lowest-sum (ratio c.self.inside.num (pos c.self.inside.den))
-        (ratio c.other.inside.num (pos c.other.inside.den)) c.reduced.result c.gcd-divisor.result c.self.invariant.lowest c.other.invariant.lowest
-        c.gcd-divisor.ensures terms)
+    (ratio c.other.inside.num (pos c.other.inside.den)) c.reduced.result c.gcd-divisor.result c.self.invariant.lowest c.other.invariant.lowest
+    c.gcd-divisor.ensures terms)
 
 pub returns-clause-overflows : goal.returns-clause-overflows
 returns-clause-overflows c =
     let mine = to_z-of_z w128 c.self.inside.num (search rules) in
     let its = to_z-of_z w128 c.other.inside.num (search rules) in
     let measure = ap₂ (λ x y. unsigned_abs x * (c.other.inside.den / c.gcd-divisor.result) + unsigned_abs y *
-            (c.self.inside.den / c.gcd-divisor.result)) mine its in
+    (c.self.inside.den / c.gcd-divisor.result)) mine its in
     let den : c.self.inside.den / c.gcd-divisor.result * c.other.inside.den ≤ largest_whole =
-            subst (λ n. n ≤ largest_whole) c.in_ok-den.ensures.0 c.in_ok-den.ensures.1 in
+    subst (λ n. n ≤ largest_whole) c.in_ok-den.ensures.0 c.in_ok-den.ensures.1 in
     rw (← c.self.view_is, ← c.other.view_is)
     (sum-fits (ratio c.self.inside.num (pos c.self.inside.den))
-        (ratio c.other.inside.num (pos c.other.inside.den)) c.gcd-divisor.result c.gcd-divisor.ensures
-        (subst (λ n. n ≤ largest_whole) measure c.in_ok-num.ensures.1) den)
+    (ratio c.other.inside.num (pos c.other.inside.den)) c.gcd-divisor.result c.gcd-divisor.ensures
+    (subst (λ n. n ≤ largest_whole) measure c.in_ok-num.ensures.1) den)

@@ -17,7 +17,7 @@ crossed :
     IsLowestTerms (product_of_ratios p q) (ratio (s.num *ℤ t.num) (pos (t.den * s.den)))
 crossed p q s t m n first second mine its left right =
     lowest-product p q s t first.lowest second.lowest (subst (λ z. IsCancelled (ratio z (pos q.den)) s) mine left)
-        (subst (λ z. IsCancelled (ratio z (pos p.den)) t) its right)
+    (subst (λ z. IsCancelled (ratio z (pos p.den)) t) its right)
 
 pub returns-in_err-num-clause-overflows : goal.returns-in_err-num-clause-overflows
 returns-in_err-num-clause-overflows c =
@@ -25,14 +25,19 @@ returns-in_err-num-clause-overflows c =
     let s = ratio c.cancelled-left.result.0 (pos c.cancelled-left.result.1) in
     let t = ratio c.cancelled-right.result.0 (pos c.cancelled-right.result.1) in
     let terms = crossed (ratio c.self.inside.num (pos c.self.inside.den))
-            (ratio c.other.inside.num (pos c.other.inside.den)) s t _ _ c.self.invariant c.other.invariant
-            (to_z-of_z w128 c.self.inside.num (search rules))
-            (to_z-of_z w128 c.other.inside.num (search rules)) c.cancelled-left.ensures c.cancelled-right.ensures in
+    (ratio c.other.inside.num (pos c.other.inside.den)) s t _ _ c.self.invariant c.other.invariant
+    (to_z-of_z w128 c.self.inside.num (search rules))
+    (to_z-of_z w128 c.other.inside.num (search rules)) c.cancelled-left.ensures c.cancelled-right.ensures in
     let size = ap₂ (λ m n. unsigned_abs m * unsigned_abs n) (to_z-of_z w128 s.num (search rules)) (to_z-of_z w128 t.num (search rules))
-            ∙ sym (unsigned_abs-mul s.num t.num) in
-    rw (exit.1, exit.2, ← c.self.view_is, ← c.other.view_is)
-    (c.in_err-num.ensures.0, record { terms = ratio (s.num *ℤ t.num) (pos (t.den * s.den)); lowest = terms;
-        past = inl (subst (λ n. largest_whole < n) size c.in_err-num.ensures.1) })
+    ∙ sym (unsigned_abs-mul s.num t.num) in
+    rw (exit.1, exit.2, ← c.self.view_is, ← c.other.view_is) (
+      c.in_err-num.ensures.0,
+      record {
+        terms = ratio (s.num *ℤ t.num) (pos (t.den * s.den));
+        lowest = terms;
+        past = inl (subst (λ n. largest_whole < n) size c.in_err-num.ensures.1);
+      },
+    )
 
 pub returns-in_err-den-clause-overflows : goal.returns-in_err-den-clause-overflows
 returns-in_err-den-clause-overflows c =
@@ -40,9 +45,9 @@ returns-in_err-den-clause-overflows c =
     let s = ratio c.cancelled-left.result.0 (pos c.cancelled-left.result.1) in
     let t = ratio c.cancelled-right.result.0 (pos c.cancelled-right.result.1) in
     let terms = crossed (ratio c.self.inside.num (pos c.self.inside.den))
-            (ratio c.other.inside.num (pos c.other.inside.den)) s t _ _ c.self.invariant c.other.invariant
-            (to_z-of_z w128 c.self.inside.num (search rules))
-            (to_z-of_z w128 c.other.inside.num (search rules)) c.cancelled-left.ensures c.cancelled-right.ensures in
+    (ratio c.other.inside.num (pos c.other.inside.den)) s t _ _ c.self.invariant c.other.invariant
+    (to_z-of_z w128 c.self.inside.num (search rules))
+    (to_z-of_z w128 c.other.inside.num (search rules)) c.cancelled-left.ensures c.cancelled-right.ensures in
     rw (exit.1, exit.2, ← c.self.view_is, ← c.other.view_is)
     (c.in_err-den.ensures.0, record { terms = ratio (s.num *ℤ t.num) (pos (t.den * s.den)); lowest = terms; past = inr c.in_err-den.ensures.1 })
 
@@ -57,7 +62,7 @@ reached c =
     let num = c.in_ok-num.ensures.0 ∙ ap₂ (λ m n. m *ℤ n) (to_z-of_z w128 s.num (search rules)) (to_z-of_z w128 t.num (search rules)) in
     subst (λ r. IsLowestTerms (product_of_ratios p q) r) (ap₂ (λ n d. ratio n (pos d)) (sym num) (sym c.in_ok-den.ensures.0))
     (crossed p q s t _ _ c.self.invariant c.other.invariant (to_z-of_z w128 c.self.inside.num (search rules))
-        (to_z-of_z w128 c.other.inside.num (search rules)) c.cancelled-left.ensures c.cancelled-right.ensures)
+    (to_z-of_z w128 c.other.inside.num (search rules)) c.cancelled-left.ensures c.cancelled-right.ensures)
 
 rational : (c : goal.In_ok-den) → IsRational (ratio c.in_ok-num.num (pos c.in_ok-den.den))
 rational c = record { lowest = (reached c).lowest; num_within = c.in_ok-num.ensures.1; den_within = c.in_ok-den.ensures.1 }
@@ -72,11 +77,11 @@ returns-clause-value c =
     let kept = to_z-of_z w128 c.in_ok-num.num (search rules) in
     rw (← c.self.view_is, ← c.other.view_is)
     (subst (λ n. IsLowestTerms
-        (product_of_ratios (ratio c.self.inside.num (pos c.self.inside.den)) (ratio c.other.inside.num (pos c.other.inside.den)))
-        (ratio n (pos c.in_ok-den.den))) (sym kept) (reached c))
+    (product_of_ratios (ratio c.self.inside.num (pos c.self.inside.den)) (ratio c.other.inside.num (pos c.other.inside.den)))
+    (ratio n (pos c.in_ok-den.den))) (sym kept) (reached c))
 
 pub returns-clause-overflows : goal.returns-clause-overflows
 returns-clause-overflows c =
     rw (← c.self.view_is, ← c.other.view_is)
     (product-fits (ratio c.self.inside.num (pos c.self.inside.den)) (ratio c.other.inside.num (pos c.other.inside.den))
-        (ratio c.in_ok-num.num (pos c.in_ok-den.den)) c.self.invariant.lowest.positive c.other.invariant.lowest.positive (reached c) (rational c))
+    (ratio c.in_ok-num.num (pos c.in_ok-den.den)) c.self.invariant.lowest.positive c.other.invariant.lowest.positive (reached c) (rational c))
