@@ -4,7 +4,7 @@ ghost use Rattle.std.specs.Prelude.{◌<◌};
 use ct_poly::{Fault, LARGEST_DEGREE, Monomial, Poly};
 use std::alloc::Global;
 
-/// What the terms are drawn from: coefficients up to `coefs`, exponents of so many names below `bound`.
+/// What the terms are drawn from: coefficients up to `coefs`, exponents of the first `names` names below `bound`.
 #[derive(Clone, Copy)]
 pub(crate) struct Shape {
     pub(crate) terms: u64,

@@ -1,5 +1,5 @@
 -- Working through a list from the front, as loops do, and what comes of it.
--- Main lemmas: `each_behind`, cited where a loop begins; `each_means`, `each_length` and `fold_means`, cited where it is told what the
+-- Main lemmas: `each_behind`, cited where a loop begins; `each_means`, `each_length` and `fold_means`, cited where one says what the
 -- values are.
 use Rattle.std.proofs.Common.{◌≡◌, refl, sym, ap, ◌∙◌, arith, ℕ, suc, ◌+◌, List, [], ◌∷◌, ◌++◌, length, length-append, append_assoc, append-nil}
 use Rattle.std.proofs.Common.{subst, Result, Ok, Err}

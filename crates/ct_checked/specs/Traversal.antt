@@ -1,4 +1,4 @@
--- A list worked through in order by a step that may be refused: the first refusal ends it, whatever refusals are.
+-- A list walked in order by a step that may be refused: the first refusal ends it, whatever refusals are.
 --     checked_fold f s xs          the state once f has taken each element in turn, from s on
 --     checked_each f xs            the values of f at the elements
 --     checked_each_from n f xs     the same where f asks for the number of an element; they are numbered from n on

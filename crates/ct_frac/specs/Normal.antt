@@ -72,7 +72,7 @@ abbrev pub sorted_onto : List Factor → List Factor → List Factor
 sorted_onto done [] = done
 sorted_onto done (f ∷ fs) = sorted_onto (inserted f done) fs
 
--- so many names from i on, each with its exponent in the monomial
+-- the first names from i on, this many, each with its exponent in the monomial
 abbrev pub names_from : ℕ → ℕ → Mono → List Factor
 names_from zero i m = []
 names_from (suc left) i m = with_exponent (name (name_with i)) (exp m i) (names_from left (i + 1) m)

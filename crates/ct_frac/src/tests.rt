@@ -1,4 +1,4 @@
-// Written fractions, with values worked by hand.
+// Written fractions, with values computed by hand.
 ghost use Rattle.std.specs.Prelude.{pos, ◌≤ℤ◌};
 
 use crate::common::wider;

@@ -26,7 +26,7 @@ pub record IsCounted {T E : Type 0} (before now : ℕ) (result : Result T E) : T
   pub unchanged : OnOk result (now ≡ before)
   pub failed : OnErr result (Rose before now)
 
--- a failure is told only where a fault was counted, and none was counted where it is not told
+-- a failure is reported only where a fault was counted, and none was counted where none is reported
 pub record Tells (failed : Type 0) (before now : ℕ) : Type 0 where
   pub later : before ≤ now
   pub rose : failed → Rose before now

@@ -89,7 +89,7 @@ module _ (n m : ℕ) (A : ℕ → ℕ → Polynomial) where
     abbrev laws : GoesByColumns n m A certs
     laws = by_columns n m A certs
 
-    -- the columns below `done` were worked, or those up to the free one
+    -- the columns below `done` are done, or those up to the free one
     abbrev pub IsSoFar : Option ℕ → ℕ → List Row → List Pivot → Type 0
     IsSoFar None done rows ps = IsEchelon polys n m A certs done (parts m rows) ps
     IsSoFar (Some f) done rows ps = IsFree polys n m A certs f (parts m rows) ps

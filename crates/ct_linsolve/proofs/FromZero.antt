@@ -1,5 +1,5 @@
--- Lists that are numbered from 0, worked through from the front; and searches in numbers. Main lemmas: `zero_behind`, cited where a loop
--- begins, `each_at`, cited where it is told what the values are, and `range_opens`.
+-- Lists that are numbered from 0, walked from the front; and searches in numbers. Main lemmas: `zero_behind`, cited where a loop
+-- begins, `each_at`, cited where one says what the values are, and `range_opens`.
 use Rattle.ct_linsolve.proofs.Base.{◌≡◌, refl, sym, ap, ◌∙◌, arith, ℕ, zero, suc, ◌+◌, ◌-◌, ◌<◌, ◌≤◌, List, [], ◌∷◌, ◌++◌, length, get_or, subst}
 use Rattle.ct_linsolve.proofs.Base.{Result, Ok, Some, None, Bool, true, false, cond, find, range_with_len, ◌>>=◌, both_fit, checked_each_from}
 use Rattle.ct_linsolve.proofs.Base.{each_behind}

@@ -1,6 +1,6 @@
 -- What elimination makes of a matrix, as values.
 --     sides left right        both lists of rows, as matrices
---     IsEchelonOf             of the matrix A of so many columns, of which the first `certs` are those of certificates: both sides
+--     IsEchelonOf             of the matrix A of `width` columns, of which the first `certs` are those of certificates: both sides
 --                             have A's number of rows, and these are as long as they should be; right·A = left, right sends no vector
 --                             but zero to zero, and the pivots and the free column are those of an elimination; the row of a pivot past
 --                             the certificates is zero at every certificate's column; and a name in no entry of A is in no entry of

@@ -60,7 +60,7 @@ fn with_unit(alloc: Global, rows: &[Vec<Poly>]) -> Result<Vec<Vec<Poly>>, NoMemo
     Ok(done)
 }
 
-/// A row of [A | I], of so many rows.
+/// A row of [A | I], A of `count` rows.
 fn joined(alloc: Global, place: usize, count: usize, row: &[Poly]) -> Result<Vec<Poly>, NoMemory>
     ensures { IfOk result (λ v. v.items ≡ row.now ++ unit_row count place) }
 {

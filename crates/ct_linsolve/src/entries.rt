@@ -187,7 +187,7 @@ fn cross(alloc: Global, p: &Poly, a: &Poly, x: &Poly, y: &Poly, one: &Poly) -> R
     cross_by_steps(alloc, p, a, x, y)
 }
 
-/// Whether a product has so many pairs of terms that a table pays.
+/// Whether a product has enough pairs of terms for a table to pay.
 fn cells_pay(p: &Poly, q: &Poly) -> bool {
     p.terms().len() >= 4 && q.terms().len() >= 4
 }

@@ -3,7 +3,7 @@
 //! A `Monomial` is seen as a list of six exponents, ordered by its total and then by the first exponent
 //! that differs. Its total is at most `LARGEST_DEGREE`. `up_to` lists all monomials in some names.
 //!
-//! What a call that can overflow answers, and the limits, are those of `ct_checked`, given out again.
+//! What a call that can overflow answers, and the limits, are those of `ct_checked`, re-exported.
 #![tactic(auto)]
 
 mod listing;

@@ -1,5 +1,5 @@
 // Exact division in cells: multiples of the divisor are taken from the table of the dividend, from the highest cell down. Where
-// nothing is left, what was taken is the quotient; where this fails or does not pay, nothing is told.
+// nothing is left, what was taken is the quotient; where this fails or does not pay, the answer is `None`.
 ghost use Rattle.std.specs.Prelude.{◌≡◌, ◌≢◌, ◌+◌, ◌≤◌, ◌<◌, All, IfOk, IfSome, IsTrue, length, pos, replicate, unsigned_abs};
 ghost use Rattle.ct_mono.specs.Division.{Divides};
 ghost use Rattle.ct_checked.specs.Limits.{most_terms, largest_norm};
@@ -77,7 +77,7 @@ fn table_of_terms(alloc: Global, ts: &[Term]) -> Result<Option<Table>, NoMemory>
     Ok(Some(Table { tops, cells }))
 }
 
-/// How many cells pay for so many terms.
+/// How many cells pay for this number of terms.
 pub(crate) fn most_cells_for(terms: usize) -> usize
     requires { terms ≤ most_terms }
     ensures { (0 < result) × (result ≤ most_cells) }

@@ -13,7 +13,7 @@ pub(crate) struct Spot {
     pub(crate) coef: i128,
 }
 
-/// Adds a multiple of the spots, so many cells above their own.
+/// Adds a multiple of the spots, `base` cells above their own.
 pub(crate) fn add_multiple(cells: &mut [i128], base: usize, coef: i128, spots: &[Spot])
     requires inside { All (λ s. base + s.cell < length cells.old) spots.now }
     requires small { size_of_cells cells.old + unsigned_abs coef * size_of_spots spots.now ≤ largest_norm }

@@ -1,5 +1,5 @@
 // Quotients of cross differences p·x − a·y in cells: both products are added to one table, from which multiples of the divisor are
-// taken. Only a quotient is told from there, and only where the measures leave room for each step.
+// taken. The table is trusted only when it finds a quotient, and only where the measures leave room for each step.
 ghost use Rattle.std.specs.Prelude.{◌≡◌, ◌≢◌, ◌+◌, ◌*◌, ◌≤◌, ◌<◌, All, IfOk, IfSome, length, pos};
 ghost use Rattle.ct_algebra.specs.Monomial.{Mono};
 ghost use Rattle.ct_algebra.specs.Polynomial.{polys, plus, times};
@@ -177,7 +177,7 @@ fn products_in_cells(
     )
 }
 
-/// How many cells pay for so many products of terms.
+/// How many cells pay for this number of products of terms.
 fn most_cells_for(pairs: usize) -> usize
     requires { pairs ≤ most_terms }
     ensures { (0 < result) × (result ≤ most_cells) }

@@ -4,7 +4,7 @@ ghost use Rattle.std.specs.List.{All};
 
 use crate::poly::Poly;
 
-/// A matrix of so many columns. The first of them, `certs` in number, are those of certificates, the others those of a telescoper.
+/// A matrix of `width` columns. The first of them, `certs` in number, are those of certificates, the others those of a telescoper.
 #[derive(Drop)]
 pub struct Matrix {
     pub rows: Vec<Vec<Poly>>,

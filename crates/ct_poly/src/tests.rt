@@ -1,4 +1,4 @@
-// Each call that takes memory once, with values worked by hand.
+// Each call that takes memory once, with values computed by hand.
 use crate::{Fault, Kind, LARGEST_NORM, Monomial, Poly};
 use std::alloc::Global;
 use std::cmp::Ordering;

@@ -122,7 +122,7 @@ module _ (bad : Option ℕ) (names : Names) where
           let value = on_second (λ xs none. (o.gives, none)) (to_nothing o.spelled.second.second) in
           record { item = o.line.0; spelled = replaced o.spelled (o.other, replaced o.spelled.second (record { item = o.line.1; spelled = value })) }
 
-  -- at most so many lines, after which these stand
+  -- at most n lines, after which these stand
   record MoreDens (most : ℕ) (found dens : Dens) (ls : List Lexeme) : Type 0 where
     lines : List (ℕ × Expr)
     few : length lines ≤ most
@@ -132,7 +132,7 @@ module _ (bad : Option ℕ) (names : Names) where
   no_den : (n : ℕ) (found ds : Dens) (ls : List Lexeme) → Made found ds ls → MoreDens n found ds ls
   no_den n found ds ls m = record { lines = []; few = omega arith; gives = m.0; spelled = m.1 }
 
-  -- a line, and at most so many more
+  -- a line, and at most n more
   abbrev OneMore : ℕ → Dens → Dens → Texts
   OneMore n found = Split (OneDen found) (MoreDens n)
 
@@ -195,7 +195,7 @@ module _ (bad : Option ℕ) (names : Names) where
                     (record { lines = lines; few = omega (arith, few); gives = gives.1; spelled = k.second.second });
               }))
 
-  -- so many lines there are at most
+  -- there are at most this many lines
   few_lines : (lines : List (ℕ × Expr)) (found dens : Dens) (ls : List Lexeme) → length found ≡ length names.variables →
       grammar.Gives names found lines dens → each (grammar.den_line names) lines ls → length lines ≤ room names.variables found
   few_lines [] found dens ls same gives spelled = omega arith

@@ -8,7 +8,7 @@ later : Option ℕ → Option ℕ
 later None = None
 later (Some at) = Some (suc at)
 
--- a place in the second list, behind so many items, where there is none in the first
+-- a place in the second list, behind the items of the first, where there is none in the first
 abbrev pub behind : ℕ → Option ℕ → Option ℕ → Option ℕ
 behind n (Some at) o = Some at
 behind n None (Some at) = Some (n + at)

@@ -53,7 +53,7 @@ module _ (names : Names) where
   cofactor_rule place low =
       grouped (grouped (passes (word_rule (codes "cofactor")) (passes (exactly_rule place low) (passes (sign_rule 58) (value_rule names true)))))
 
-  -- so many cofactors, from this number on
+  -- n cofactors, from this number on
   abbrev pub CofactorsFrom : ℕ → ℕ → List Expr → Texts
   CofactorsFrom place count xs ls = (length xs ≡ count) × cofactors names place xs ls
 
@@ -75,7 +75,7 @@ module _ (names : Names) where
       apart [] ls h = cc (h.0)
       apart (x ∷ xs) ls h = let size = h.0 in record { head = x; tail = xs; value = refl; spelled = replaced h.1 (omega (arith, size), h.1.second) }
 
--- a report but for its last line, on so many generators
+-- a report but for its last line, on n generators
 unfoldable pub Lines : List Naming → ℕ → Report → Texts
 Lines variables count r =
     header (codes "report")

@@ -1,7 +1,7 @@
 -- What is read as a list of values, one after the other, is spelled so.
 --     More B found xs ls   xs are the values found before, and more, for which ls stand by B
 --     Goes-found, Goes-one, Goes-all    the list ends; one value more; the whole, where none was found before
---     Goes-key_lines       at most so many lines that begin with a word
+--     Goes-key_lines       at most n lines that begin with a word
 use Rattle.ct_problem.proofs.Base.{◌≡◌, ℕ, ◌≤◌, zero, suc, Bool, true, false, cond, List, [], ◌∷◌, ◌++◌, length, arith, refl, sym, ◌∙◌, subst}
 use Rattle.ct_problem.proofs.Base.{append_assoc, append-nil, Parser, ◌>>=◌, ◌>>◌, pure, eat_word, value_lines, value_lines_from, Names, keyed, values}
 use Rattle.ct_problem.proofs.Base.{Lexeme, Word, Texts, nothing, one, optional, ◌▸◌, each}

@@ -162,7 +162,7 @@ module _ (found : List Naming) where
 
 -- ---- the lines
 
--- the lines of at most so many names, for which there is room
+-- the lines of at most n names, for which there is room
 record Lines (most : ℕ) (found ns : List Naming) (ls : List Lexeme) : Type 0 where
   few : length ns ≤ most
   rooms : Rooms found ns

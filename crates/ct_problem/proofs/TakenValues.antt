@@ -24,7 +24,7 @@ module _ (bad : Option ℕ) where
       (λ rest a. other_word key r rest below a.from)
       (Takes-last bad _ (Takes-no_more key) (λ k. refl))
 
-  -- at most so many lines that begin with this word
+  -- at most n lines that begin with this word
   module _ {X : Type 0} (k : Key) (r : ℕ) (below : rank_of (word_of k) < r) (line : List X → Parser X) (from : ℕ → List X → Parser (List X))
       (stops : (found : List X) → from 0 found ≡ (read.no_more (word_of k) >> pure found))
       (goes : (n : ℕ) (found : List X) →

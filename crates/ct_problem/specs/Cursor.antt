@@ -61,7 +61,7 @@ pub record AreNames (names : Names) (texts : List (List ℕ)) : Type 0 where
   pub few : AreFew names
   pub same_texts : texts ≡ texts_of names
 
--- the name at this place behind so many declared names
+-- the name at this place behind the declared names
 abbrev pub known_at : ℕ → Option ℕ → Known
 known_at declared (Some at) = if nat_lt at declared then Variable at else Let (at - declared)
 known_at declared None = Unknown

@@ -99,7 +99,7 @@ abbrev pub declarations_by : (NameLine → Parser (List Naming)) → List Naming
 declarations_by more found None = pure found
 declarations_by more found (Some line) = more line
 
--- at most so many more lines
+-- at most this many more lines
 unfoldable pub declarations_from : ℕ → List Naming → Parser (List Naming)
 declarations_from zero found = look name_line >>= full_by found
 declarations_from (suc n) found =

@@ -5,7 +5,7 @@ ghost use Rattle.ct_problem.specs.declared.fault.ReadFault.TheVariants.{NoMemory
 use std::alloc::{AllocError, AllocFailed};
 use thiserror::Error;
 
-/// What a fault is. Where several of the kinds from `TooMany` on fit one token, the first of them is told.
+/// What a fault is. Where several of the kinds from `TooMany` on fit one token, the first of them is reported.
 #[derive(Clone, Copy, Debug, PartialEq, Eq, Error)]
 pub enum BadKind {
     /// More than 2^26 bytes.

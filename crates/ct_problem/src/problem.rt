@@ -33,7 +33,7 @@ pub struct Range {
     pub high: u16,
 }
 
-/// A problem. Names, and lists of `let` lines, are told by their numbers, from 0. `dens` has an entry for each
+/// A problem. Names, and lists of `let` lines, are given by their numbers, from 0. `dens` has an entry for each
 /// name, and `let_names` one for each entry of `lets`. `end` is the place behind the `end` line.
 #[derive(Drop)]
 pub struct Problem {

@@ -2,7 +2,7 @@
 --     checked_values a xs          the values of expressions, in order
 --     listed g                     the expressions of `gen` lines
 --     checked_setup p              the generators, where all expressions of `gen` and `target` lines have values
---     Refusal, plain_setup p       the same without a generator that is zero, with the targets; what is met first is told
+--     Refusal, plain_setup p       the same without a generator that is zero, with the targets; what is met first is reported
 use Rattle.std.specs.Prelude.{ℕ, ◌==◌, List, [], length, Bool, if◌then◌else◌, Result, Ok, Err}
 use Rattle.ct_algebra.specs.Names.{Name}
 use Rattle.ct_algebra.specs.Actions.{Action}

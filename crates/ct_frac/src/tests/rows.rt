@@ -1,4 +1,4 @@
-// Tables of written results, worked outside by the rules of written fractions. A polynomial is given by its terms: the
+// Tables of written results, computed outside by the rules of written fractions. A polynomial is given by its terms: the
 // number, the exponent of n, which is the name 0, and that of k, the name 1.
 use crate::tests::ratio;
 use crate::{Fault, Frac, Kind, Poly};
