@@ -1,4 +1,4 @@
--- Polynomials and operators as text (this project's own).
+-- Polynomials, operators and fractions as text (this project's own).
 --     powers_in is_symbol n m     the powers in m of the first n names, in order, or of their symbols, but those that are 1
 --     power_text names p          `x`, `x^2`, `S[x]`, `D[x]^2`
 --     term_text names c ps        the absolute value of c and the powers, joined by `*`; 1 is left out before a power
@@ -7,11 +7,16 @@
 --     operator_text names p       the same of an operator: a coefficient of one term is written as in a polynomial, before the
 --                                 symbols, and one of several terms stands in parentheses; without symbols, the
 --                                 coefficient's terms are terms of the sum
-use Rattle.std.specs.Prelude.{ℕ, zero, suc, ◌==◌, Bool, true, false, if◌then◌else◌, ℤ, pos, negsuc, unsigned_abs, List, [], ◌∷◌, ◌++◌, length, get_or, flat_map, codes, decimal}
+--     monomial_text names m       the powers of symbols, or `1`
+--     fraction_text names w       the numerator; `(N)/(D)` over a denominator that is not 1, D being the whole number, unless it is 1,
+--                                 and each factor as `(f)` or `(f)^e`, joined by `*`
+use Rattle.std.specs.Prelude.{ℕ, zero, suc, ◌==◌, ◌&&◌, Bool, true, false, if◌then◌else◌, ℤ, pos, negsuc, unsigned_abs, List, [], ◌∷◌, ◌++◌, length, get_or, flat_map, codes, decimal}
 use Rattle.ct_algebra.specs.Monomial.{Mono, exp}
 use Rattle.ct_algebra.specs.Polynomial.{Polynomial}
 use Rattle.ct_algebra.specs.Actions as actions
 use Rattle.ct_algebra.specs.Operators.{Operator}
+use Rattle.ct_frac.specs.declared.factor.Factor.{Factor}
+use Rattle.ct_frac.specs.Written.{Denominator, Written}
 use Rattle.ct_ore.specs.Naming.{Naming}
 use Rattle.ct_ore.specs.declared.algebra.Role.TheVariants.{Param}
 use Rattle.ct_answer.specs.declared.factors.Power.{Power}
@@ -58,6 +63,10 @@ later_powers names ps = flat_map (λ p. 42 ∷ power_text names p) ps
 abbrev pub powers_text : List Naming → List Power → List ℕ
 powers_text names [] = []
 powers_text names (p ∷ ps) = power_text names p ++ later_powers names ps
+
+abbrev pub powers_or_one : List Naming → List Power → List ℕ
+powers_or_one names [] = codes "1"
+powers_or_one names (p ∷ ps) = powers_text names (p ∷ ps)
 
 -- ---- terms
 
@@ -121,3 +130,32 @@ operator_entries_text names (e ∷ es) = operator_entry_text names true e ++ fla
 
 unfoldable pub operator_text : List Naming → Operator → List ℕ
 operator_text names p = operator_entries_text names p.terms
+
+abbrev pub monomial_text : List Naming → Mono → List ℕ
+monomial_text names m = powers_or_one names (symbols_in m)
+
+-- ---- fractions
+
+unfoldable pub factor_text : List Naming → Factor → List ℕ
+factor_text names f = codes "(" ++ polynomial_text names f.poly ++ codes ")" ++ exponent_text f.exp
+
+-- factors with `*` before each
+abbrev pub later_factors : List Naming → List Factor → List ℕ
+later_factors names fs = flat_map (λ f. 42 ∷ factor_text names f) fs
+
+-- factors with `*` between them
+abbrev pub factors_text : List Naming → List Factor → List ℕ
+factors_text names [] = []
+factors_text names (f ∷ fs) = factor_text names f ++ later_factors names fs
+
+unfoldable pub denominator_text : List Naming → Denominator → List ℕ
+denominator_text names d =
+    if d.whole == 1 then factors_text names d.factors else decimal d.whole ++ later_factors names d.factors
+
+abbrev pub over_text : List Naming → Written → List ℕ
+over_text names w =
+    codes "(" ++ polynomial_text names w.numerator ++ codes ")/(" ++ denominator_text names w.den ++ codes ")"
+
+unfoldable pub fraction_text : List Naming → Written → List ℕ
+fraction_text names w =
+    if w.den.whole == 1 && length w.den.factors == 0 then polynomial_text names w.numerator else over_text names w

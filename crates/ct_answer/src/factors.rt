@@ -1,10 +1,11 @@
 // Terms: a number and powers, with `*` between them.
-ghost use Rattle.std.specs.Prelude.{◌≡◌, ◌++◌, OnOk};
+ghost use Rattle.std.specs.Prelude.{◌≡◌, ◌++◌, OnOk, IfOk};
 ghost use Rattle.ct_answer.specs.Text as spec;
 
 use crate::bytes::{push, push_name, push_number};
 use ct_mono::{Monomial, NoMemory};
 use ct_ore::{Action, Algebra};
+use std::alloc::Global;
 
 /// A power of a name or of its symbol.
 #[derive(Clone, Copy)]
@@ -67,11 +68,18 @@ fn push_power(out: &mut Vec<u8>, algebra: &Algebra, power: Power) -> Result<(), 
     ensures { OnOk result (out.new.items ≡ out.old.items ++ spec.power_text algebra.now power) }
 {
     push_base(out, algebra, power)?;
-    if power.exponent == 1 {
+    push_exponent(out, u32::from(power.exponent))
+}
+
+/// An exponent with `^` before it; 1 is left out.
+pub(crate) fn push_exponent(out: &mut Vec<u8>, exponent: u32) -> Result<(), NoMemory>
+    ensures { OnOk result (out.new.items ≡ out.old.items ++ spec.exponent_text exponent) }
+{
+    if exponent == 1 {
         return Ok(());
     }
     push(out, b"^")?;
-    push_number(out, power.exponent)
+    push_number(out, exponent)
 }
 
 /// Powers with `*` before each.
@@ -87,6 +95,22 @@ pub(crate) fn push_later_powers(
         push_power(out, algebra, *power)?;
     }
     Ok(())
+}
+
+/// The text of a monomial in the symbols of names, such as `S[n]^2*D[x]`. A name past those of the algebra has no letters.
+pub fn print_monomial(alloc: Global, algebra: &Algebra, m: &Monomial) -> Result<Vec<u8>, NoMemory>
+    ensures { IfOk result (λ text. text.items ≡ spec.monomial_text algebra.now m.now) }
+{
+    let mut out = Vec::new(alloc);
+    let mut powers = Vec::new(alloc);
+    append_powers(&mut powers, true, m)?;
+    let Some((first, others)) = powers.as_slice().split_first() else {
+        push(&mut out, b"1")?;
+        return Ok(out);
+    };
+    push_power(&mut out, algebra, *first)?;
+    push_later_powers(&mut out, algebra, others)?;
+    Ok(out)
 }
 
 /// The absolute value of a number and powers; 1 is left out before a power.

@@ -1,4 +1,4 @@
-//! Polynomials, operators and reductions as text.
+//! Polynomials, operators, fractions and reductions as text.
 //!
 //! The terms fall. A term is its number and its powers joined by `*`, as in `-2*n^2*S[n]`, and a coefficient of
 //! several terms stands in parentheses, as in `(n + 1)*S[n]^2 - 3*n`. `specs/Text.antt` says the rest,
@@ -7,6 +7,7 @@
 
 mod bytes;
 mod factors;
+mod fraction;
 mod laws;
 mod operator;
 mod polynomial;
@@ -16,6 +17,8 @@ mod tests;
 
 pub use bytes::{push, push_name, push_number};
 pub use ct_mono::NoMemory;
+pub use factors::print_monomial;
+pub use fraction::print_frac;
 pub use laws::{printed_operators_are_read, printed_polynomials_are_read};
 pub use operator::print_op;
 pub use polynomial::print_poly;

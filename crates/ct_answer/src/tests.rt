@@ -1,8 +1,9 @@
 // Texts by hand. The name n has a shift, and x a derivation.
 ghost use Rattle.std.specs.Prelude.{◌<◌};
 
-use crate::{print_op, print_poly, print_reductions};
-use ct_mono::NoMemory;
+use crate::{print_frac, print_monomial, print_op, print_poly, print_reductions};
+use ct_frac::{Fault, Frac, Kind};
+use ct_mono::{Monomial, NoMemory};
 use ct_ore::{Action, Algebra, NameInfo, Op, Role};
 use ct_poly::Poly;
 use ct_reduce::Reduced;
@@ -82,6 +83,57 @@ fn polynomials_are_written_by_falling_terms(rt: HostRuntime) -> Result<(), Fail>
     assert_eq!(rt; text.as_slice(), b"-1".as_slice());
     let text = print_poly(alloc, &algebra, &Poly::zero(alloc))?;
     assert_eq!(rt; text.as_slice(), b"0".as_slice());
+    Ok(())
+}
+
+// the quotient, where the divisor is not zero
+fn ratio(alloc: Global, n: &Poly, d: &Poly) -> Result<Frac, Fault> {
+    if d.is_zero() {
+        return Err(Fault::Overflow(Kind::Size));
+    }
+    Ok(Frac::quotient(alloc, n, d)?)
+}
+
+#[test]
+fn fractions_are_written_over_their_factors(rt: HostRuntime) -> Result<(), Fail> {
+    let alloc = rt.alloc();
+    let algebra = shift_and_derivation(alloc)?;
+    let n = Poly::name(alloc, 0)?;
+    let x = Poly::name(alloc, 1)?;
+    let one = Poly::constant(alloc, 1)?;
+    let six = Poly::constant(alloc, 6)?;
+    let next = n.add(alloc, &one)?;
+    let rows = [
+        (one.copy(alloc)?, six.copy(alloc)?, b"(1)/(6)".as_slice()),
+        (
+            six.copy(alloc)?,
+            next.copy(alloc)?,
+            b"(6)/((n + 1))".as_slice(),
+        ),
+        (
+            next.copy(alloc)?,
+            six.mul(alloc, &x)?.mul(alloc, &x)?,
+            b"(n + 1)/(6*(x)^2)".as_slice(),
+        ),
+        (
+            one.neg(alloc)?,
+            n.mul(alloc, &x)?.mul(alloc, &next)?,
+            b"(-1)/((x)*(n)*(n + 1))".as_slice(),
+        ),
+        (next.mul(alloc, &six)?, six, b"n + 1".as_slice()),
+        (Poly::zero(alloc), next, b"0".as_slice()),
+    ];
+    for (n, d, wanted) in &rows {
+        let text = print_frac(alloc, &algebra, &ratio(alloc, n, d)?)?;
+        assert_eq!(rt; text.as_slice(), *wanted);
+    }
+    let text = print_monomial(alloc, &algebra, &Monomial::one())?;
+    assert_eq!(rt; text.as_slice(), b"1".as_slice());
+    let shift = Monomial::name(0);
+    let square = shift.times(&shift).unwrap_or(Monomial::one());
+    let product = square.times(&Monomial::name(1)).unwrap_or(Monomial::one());
+    let text = print_monomial(alloc, &algebra, &product)?;
+    assert_eq!(rt; text.as_slice(), b"S[n]^2*D[x]".as_slice());
     Ok(())
 }
 
