@@ -5,7 +5,7 @@ use Rattle.ct_answer.proofs.Base.{IsOperator, IsPolynomial}
 use Rattle.ct_problem.specs.Input.{Input, Outcome}
 use Rattle.ct_problem.specs.Expressions.{expression}
 use Rattle.ct_problem.proofs.Taking.{Taken}
-use Rattle.ct_problem.proofs.TakenExpressions.{Takes-expression}
+use Rattle.ct_problem.proofs.ExpressionRules.{expression_rule}
 use Rattle.ct_problem.proofs.WellFormedLines.{operator_of, polynomial_of}
 use Rattle.ct_answer.specs.ReadBack.{IsSpelled}
 
@@ -17,7 +17,7 @@ module _ (names : List Naming) (operators : Bool) (text : List ℕ) where
   is_read : (x : Expr) → IsSpelled names operators x text → Taken (expression (declared names) operators) start x []
   unfolding start
   is_read x spelled =
-      Takes-expression (scan_of text 0).bad (declared names) operators x start _ [] refl (sym (append-nil _)) spelled.stands
+      (expression_rule (scan_of text 0).bad (declared names) operators).whole x tt start _ [] refl (sym (append-nil _)) spelled.stands
       (record { no_divisor = refl; no_power = refl; no_factor = refl; no_plus = refl; no_minus = refl })
 
   pub one_expression : (x y : Expr) → IsSpelled names operators x text → IsSpelled names operators y text → x ≡ y

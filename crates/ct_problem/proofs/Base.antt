@@ -46,10 +46,8 @@ unfoldable pub use Rattle.ct_ore.specs.Naming.{summed_of}
 pub use Rattle.ct_ore.specs.declared.algebra.NameInfo.{NameInfo}
 pub use Rattle.ct_ore.specs.declared.algebra.Role.{Role}
 pub use Rattle.ct_ore.specs.declared.algebra.Role.TheVariants.{Summed}
-pub use Rattle.ct_token.proofs.Cuts.{scans_cut_the_text}
 pub use Rattle.ct_token.proofs.TokenPlaces.{scans_are_tokens}
-pub use Rattle.ct_token.specs.Cutting.{AreStretches, Gap, IsBlank, IsEnding, IsGap, Stretch, bytes_of, tokens_at}
-pub use Rattle.ct_token.specs.Lexical.{Scanned, is_blank, is_letter, is_line_end, is_printable, is_word_byte, scan_of}
+pub use Rattle.ct_token.specs.Lexical.{Scanned, is_letter, is_line_end, is_word_byte, scan_of}
 pub use Rattle.ct_token.specs.Lexing.{AreTokens, IsToken, IsWord, slice}
 pub use Rattle.ct_token.specs.declared.token.Symbol.{Symbol}
 pub use Rattle.ct_token.specs.declared.token.Token.{Token}
@@ -92,7 +90,6 @@ pub use Rattle.ct_problem.specs.Number.{fault_if, value_of}
 unfoldable pub use Rattle.ct_problem.specs.Number.{coming_number}
 pub use Rattle.ct_problem.specs.OverNames.{has_symbol, is_listed, some_all_true}
 unfoldable pub use Rattle.ct_problem.specs.OverNames.{is_over, is_over_term, over_step}
-pub use Rattle.ct_problem.specs.Plain.{ends}
 unfoldable pub use Rattle.ct_problem.specs.Plain.{after_all, is_plain, line_after}
 pub use Rattle.ct_problem.specs.ProblemLines.{listed_or_used}
 unfoldable pub use Rattle.ct_problem.specs.ProblemLines.{range, generators, high_number, range_line, used}
@@ -101,7 +98,6 @@ pub use Rattle.ct_problem.specs.ReadProblem.{trailing_by}
 unfoldable pub use Rattle.ct_problem.specs.ReadProblem.{body, ending, head, lacks, last_line, nothing_left, problem, problem_of}
 pub use Rattle.ct_problem.specs.ReadReport.{found}
 unfoldable pub use Rattle.ct_problem.specs.ReadReport.{report_of}
-pub use Rattle.ct_problem.specs.ReportLines.{report}
 unfoldable pub use Rattle.ct_problem.specs.ReportLines.{cofactors_from}
 pub use Rattle.ct_problem.specs.WellFormed.{AreDens, AreDensOf, AreForms, AreGenerators, Each, IsForm, IsGens, IsOperator, IsPolynomial, IsQuotient}
 pub use Rattle.ct_problem.specs.WellFormed.{IsRange, IsReportOn}
@@ -124,6 +120,6 @@ pub use Rattle.ct_problem.specs.declared.reading.let_lines.LetWord.TheVariants.{
 pub use Rattle.ct_problem.specs.declared.reading.names.Known.{Known}
 pub use Rattle.ct_problem.specs.declared.reading.names.Known.TheVariants.{Let, Unknown, Variable}
 pub use Rattle.ct_problem.specs.declared.reading.plain.Line.{Line}
-pub use Rattle.ct_problem.specs.declared.reading.plain.Line.TheVariants.{Blank, Ended, Written}
+pub use Rattle.ct_problem.specs.declared.reading.plain.Line.TheVariants.{Ended}
 pub use Rattle.ct_problem.specs.declared.report.Quotient.{Quotient}
 pub use Rattle.ct_problem.specs.declared.report.Report.{Report}

@@ -1,15 +1,13 @@
 -- The rules of `den` lines. There are no more lines than summed names: each takes one for which nothing stood (`room-taken`).
 -- Main lemma `den_lines_rule`.
+use Rattle.ct_problem.proofs.Rules.{Image, makes, any, Rule, like, binds, result, Split, Made, same_rule, looks, unless, passes}
 use Rattle.ct_problem.proofs.Base.{◌≡◌, ℕ, zero, suc, ◌+◌, ◌≤◌, max, ◌&&◌, Bool, true, false, cond, List, [], ◌∷◌, ◌++◌, length, Option, Some, None}
-use Rattle.ct_problem.proofs.Base.{Ok}
-use Rattle.ct_problem.proofs.Base.{IsTrue, slice_get, refl, sym, ap, ◌∙◌, subst, arith, codes, is_none, false≢true, ◌⊎◌, inl, inr, Symbol, Naming}
+use Rattle.ct_problem.proofs.Base.{Ok, IsTrue, slice_get, refl, sym, ap, ◌∙◌, subst, arith, codes, is_none, false≢true, ◌⊎◌, inl, inr, Naming}
 use Rattle.ct_problem.proofs.Base.{is_summed, Expr, WrongKind, Known, Variable, Let, Unknown, Dens, no_dens, is_given, with_den, is_summed_name}
 use Rattle.ct_problem.proofs.Base.{summed_by, summed_word, summed_name, once, den_line, den_lines, den_lines_from, Input, Parser, ◌>>=◌, ◌>>◌, pure}
-use Rattle.ct_problem.proofs.Base.{fault, look, place, skip, next, past, expect, sees_word, eat_word, Lexeme, Word, Sign, Texts, nothing, one, ◌▸◌}
-use Rattle.ct_problem.proofs.Base.{each, IsSummed, Names, known, summed_texts, length-map}
-use Rattle.ct_problem.proofs.Frame.{joined_to_left, joined_to_right, joined_nothing, shows_word, to_nothing, on_first, on_second, replaced}
-use Rattle.ct_problem.proofs.Frame.{replaced_both, anywhere}
-use Rattle.ct_problem.proofs.Frame.{IsFresh}
+use Rattle.ct_problem.proofs.Base.{fault, look, place, skip, next, past, expect, sees_word, eat_word, Lexeme, Word, Sign, Texts, one, ◌▸◌, each}
+use Rattle.ct_problem.proofs.Base.{IsSummed, Names, known, summed_texts, length-map}
+use Rattle.ct_problem.proofs.Frame.{Ok-same, joined_to_left, joined_to_right, shows_word, on_first, replaced, replaced_both, anywhere, IsFresh}
 use Rattle.ct_problem.specs.Lines as read
 use Rattle.ct_problem.specs.GrammarProblem as grammar
 use Rattle.ct_problem.proofs.AlgebraNames.{with_text-length}
@@ -17,8 +15,7 @@ use Rattle.ct_problem.proofs.GivenDens.{length-with_den}
 use Rattle.ct_problem.proofs.KnownNames.{known-variable, variable-known}
 use Rattle.ct_problem.proofs.LineStarts.{AfterLines, Leads, other_word, fresh_before, leads_nothing, leads_key}
 use Rattle.ct_problem.proofs.LineStarts as starts
-use Rattle.ct_problem.proofs.Rules.{any, Rule, like, binds, result, Split, Made, same_rule, looks, unless, passes, sign_rule}
-use Rattle.ct_problem.proofs.RuleChoices.{Meant, meant_rule, word_test, decides}
+use Rattle.ct_problem.proofs.RuleChoices.{sign_rule, meant_rule, word_test, decides}
 use Rattle.ct_problem.proofs.LineRules.{value_rule, past_rule}
 
 -- the summed names for which nothing stands
@@ -72,10 +69,8 @@ module _ (bad : Option ℕ) (names : Names) where
           is_summed_name (slice_get names.variables n) ≡ b
           → cond {A = Parser ℕ} b (skip >> pure n) (fault WrongKind) i ≡ Ok (at, j) → IsSummed names letters at × (next i ≡ j)
       summed_if letters i j at n e true s h =
-          let pairs : ◌≡◌ {A = ℕ × Input} (n, next i) (at, j) = cc in (
-            subst (IsSummed names letters) (ap (λ (r : ℕ × Input). r.0) pairs) (record { first = variable-known letters n names e; summed = s }),
-            ap (λ (r : ℕ × Input). r.1) pairs,
-          )
+          let both = Ok-same h in
+          (subst (IsSummed names letters) both.0 (record { first = variable-known letters n names e; summed = s }), both.1)
       summed_if letters i j at n e false s h = cc
 
       is : (letters : List ℕ) (i j : Input) (at : ℕ) (k : Known) → known letters names ≡ k → summed_by names k i ≡ Ok (at, j) →
@@ -97,14 +92,13 @@ module _ (bad : Option ℕ) (names : Names) where
       (λ at. once names (is_given at found) start >> (expect 58 >> (read.value names false >>= (λ x. pure (with_den at x found)))))
 
   abbrev Behind : Dens → ℕ → Dens → Texts
-  Behind found at ds ls = (is_given at found ≡ false) × (one (Sign 58) ▸ Split (grammar.value names false) (λ x. Made (with_den at x found)) ds) ls
+  Behind found at ds ls = (is_given at found ≡ false) × (one (Sign 58) ▸ Image (λ x. with_den at x found) (grammar.value names false) ds) ls
 
   behind_rule : (found : Dens) (start : ℕ) → Rule bad any (behind_key found start) (OneDen found) (IsFresh bad)
   behind_rule found start =
       like there back (λ rest a. a)
       (binds summed_rule (λ at. unless (λ b. once names b start) (is_given at found) (λ i j x e. cc) (λ i. refl)
-      (passes (sign_rule 58)
-      (binds (value_rule names false) (λ x. result (with_den at x found)) (λ x y back rest m a. fresh_before bad back rest a))))
+      (passes (sign_rule 58) (makes (λ x. with_den at x found) (value_rule names false))))
       (λ at y back rest m a. tt))
     where
       there : (ds : Dens) (ls : List Lexeme) → Split (grammar.summed names) (Behind found) ds ls → OneDen found ds ls
@@ -113,14 +107,17 @@ module _ (bad : Option ℕ) (names : Names) where
           record {
             line = (h.item, v.item);
             other = h.spelled.second.0;
-            gives = v.spelled.second.0;
-            spelled = replaced h.spelled (replaced h.spelled.second.1 (joined_nothing (on_second (λ xs m. m.1) v.spelled)));
+            gives = v.value;
+            spelled = replaced h.spelled (replaced h.spelled.second.1 v.spelled);
           }
 
       back : (ds : Dens) (ls : List Lexeme) → OneDen found ds ls → Split (grammar.summed names) (Behind found) ds ls
       back ds ls o =
-          let value = on_second (λ xs none. (o.gives, none)) (to_nothing o.spelled.second.second) in
-          record { item = o.line.0; spelled = replaced o.spelled (o.other, replaced o.spelled.second (record { item = o.line.1; spelled = value })) }
+          let s = o.spelled in
+          record {
+            item = o.line.0;
+            spelled = replaced s (o.other, replaced s.second (record { item = o.line.1; value = o.gives; spelled = s.second.second }));
+          }
 
   -- at most n lines, after which these stand
   record MoreDens (most : ℕ) (found dens : Dens) (ls : List Lexeme) : Type 0 where

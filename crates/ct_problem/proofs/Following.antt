@@ -3,7 +3,7 @@
 --     Settled j         where tokens are left and no line ends, the text goes on to its end: so it is behind a step to a line
 --                       (`fresh_line-settles`), and stays so past what doesn't end a line (`passed`)
 --     used-taken        the lexemes that were taken are those of the tokens that were
-use Rattle.ct_problem.proofs.Base.{◌≡◌, ℕ, Bool, true, false, List, [], ◌∷◌, ◌++◌, Option, Some, None, Ok, refl, sym, ap, ◌∙◌, append_assoc}
+use Rattle.ct_problem.proofs.Base.{Outcome, ◌≡◌, ℕ, Bool, true, false, List, [], ◌∷◌, ◌++◌, Option, Some, None, Ok, refl, sym, ap, ◌∙◌, append_assoc}
 use Rattle.ct_problem.proofs.Base.{append_cancel_right, Token, false≢true, is_line_end, slice, Symbol, Input, next, tail, has_line_end, fresh_line}
 use Rattle.ct_problem.proofs.Base.{fresh_by, Lexeme, Word, Number, Sign, Dots, LineEnd, lexeme_of, lexemes}
 use Rattle.ct_token.specs.declared.token.Symbol.TheVariants as symbol
@@ -34,6 +34,19 @@ Follows-then i j k f g = record {
   parts = f.parts ∙ ap (λ ts. f.front ++ ts) g.parts ∙ sym (append_assoc f.front g.front k.left);
   settles = λ s. g.settles (f.settles s);
 }
+
+-- where tokens are left later, they were before
+pub goes_on_before : (i j : Input) → Follows i j → Goes_on j → Goes_on i
+goes_on_before i j f left none = left (by f.front (sym f.parts ∙ none))
+  where
+    by : (front : List Token) → front ++ j.left ≡ [] → j.left ≡ []
+    by [] e = e
+    by (t ∷ ts) e = cc
+
+-- the same value and the same cursor
+pub Ok-same : {A : Type 0} {x y : A} {i j : Input} → ◌≡◌ {A = Outcome A} (Ok (x, i)) (Ok (y, j)) → (x ≡ y) × (i ≡ j)
+Ok-same {A} {x} {y} {i} {j} e =
+    let pairs : ◌≡◌ {A = A × Input} (x, i) (y, j) = cc in (ap (λ (r : A × Input). r.0) pairs, ap (λ (r : A × Input). r.1) pairs)
 
 -- ---- steps
 
@@ -77,9 +90,8 @@ Follows-past i l rest head plain = Follows-next i (passed i l rest head plain)
 
 fresh_of : (i j : Input) (x : Unit {0}) (b : Bool) (o : Option ℕ) → has_line_end i.left ≡ b → i.bad ≡ o → fresh_by b o i ≡ Ok (x, j) →
     (i ≡ j) × (has_line_end i.left ≡ false → i.bad ≡ None)
-fresh_of i j x true o e f h = let pairs : ◌≡◌ {A = Unit {0} × Input} (tt, i) (x, j) = cc in
-    (ap (λ (r : Unit {0} × Input). r.1) pairs, λ none. absurd (false≢true (sym none ∙ e)))
-fresh_of i j x false None e f h = let pairs : ◌≡◌ {A = Unit {0} × Input} (tt, i) (x, j) = cc in (ap (λ (r : Unit {0} × Input). r.1) pairs, λ none. f)
+fresh_of i j x true o e f h = ((Ok-same h).1, λ none. absurd (false≢true (sym none ∙ e)))
+fresh_of i j x false None e f h = ((Ok-same h).1, λ none. f)
 fresh_of i j x false (Some at) e f h = cc
 
 -- a step to a line takes nothing

@@ -4,7 +4,8 @@ use Rattle.ct_problem.proofs.Base.{length-drop, largest_norm, Naming, scan_of, A
 use Rattle.ct_problem.proofs.Base.{cofactors, Lexeme, Word, Texts, ◌▸◌, lexemes, Names, most_bytes, is_plain, input_of_scan}
 use Rattle.ct_problem.proofs.Frame.{joined_to_right}
 use Rattle.ct_problem.proofs.Cursors.{both_pass}
-use Rattle.ct_problem.proofs.LexemeStarts.{begun-length, length-shown}
+use Rattle.ct_problem.proofs.LexemeStarts.{begun-length}
+use Rattle.ct_problem.proofs.LexemeSteps.{length-shown}
 
 -- ---- tokens
 

@@ -1,25 +1,21 @@
 -- How lexemes begin, and what may come after a rule.
---     Opens ls                        there is a first lexeme, and it is no `-`
+--     Opens ls                        no `-` begins there
 --     AfterAtom, AfterFactor, AfterTerm, AfterSum   the lexemes that come after go on with no such rule
-use Rattle.ct_problem.proofs.Base.{◌≡◌, suc, ◌<◌, ◌≤◌, false, List, [], ◌∷◌, ◌++◌, length, refl, sym, ap, ◌∙◌, subst, arith, length-append, Token}
-use Rattle.ct_problem.proofs.Base.{Input, Lexeme, Texts, one, ◌▸◌, each, lexemes}
-use Rattle.ct_problem.proofs.Frame.{shown, shows_sign}
+--     Ends ls                         the end of a line begins there
+use Rattle.ct_problem.proofs.Base.{refl, LineEnd, append_assoc, ◌≡◌, ◌<◌, ◌≤◌, false, List, [], ◌∷◌, ◌++◌, length, sym, ap, ◌∙◌, subst, arith}
+use Rattle.ct_problem.proofs.Base.{length-append, Lexeme, Texts, one, ◌▸◌, each}
+use Rattle.ct_problem.proofs.Frame.{shows_sign}
 
--- there is a first lexeme, and it is no `-`
-pub record Opens (ls : List Lexeme) : Type 0 where
-  pub head : Lexeme
-  pub back : List Lexeme
-  pub parts : ls ≡ head ∷ back
-  pub no_minus : (rest : List Lexeme) → shows_sign 45 (head ∷ rest) ≡ false
+-- no `-` begins there
+abbrev pub Opens : List Lexeme → Type 0
+Opens ls = (rest : List Lexeme) → shows_sign 45 (ls ++ rest) ≡ false
 
 pub Opens-joined : {a b : Texts} {ls : List Lexeme} (h : (a ▸ b) ls) → Opens h.front → Opens ls
-Opens-joined h o = record { head = o.head; back = o.back ++ h.back; parts = h.parts ∙ ap (λ xs. xs ++ h.back) o.parts; no_minus = o.no_minus }
+Opens-joined h o rest =
+    ap (λ xs. shows_sign 45 (xs ++ rest)) h.parts ∙ ap (shows_sign 45) (append_assoc h.front h.back rest) ∙ o (h.back ++ rest)
 
-pub Opens-one : (l : Lexeme) (ls : List Lexeme) → one l ls → ((rest : List Lexeme) → shows_sign 45 (l ∷ rest) ≡ false) → Opens ls
-Opens-one l ls u other = record { head = l; back = []; parts = u; no_minus = other }
-
-pub Opens-before : (ls rest : List Lexeme) → Opens ls → shows_sign 45 (ls ++ rest) ≡ false
-Opens-before ls rest o = ap (λ xs. shows_sign 45 (xs ++ rest)) o.parts ∙ o.no_minus (o.back ++ rest)
+pub Opens-with : (l : Lexeme) (ls back : List Lexeme) → ls ≡ l ∷ back → ((rest : List Lexeme) → shows_sign 45 (l ∷ rest) ≡ false) → Opens ls
+Opens-with l ls back parts other rest = ap (λ xs. shows_sign 45 (xs ++ rest)) parts ∙ other (back ++ rest)
 
 pub each-length : {X : Type 0} (a : X → Texts) → ((x : X) (ls : List Lexeme) → a x ls → 0 < length ls) → (xs : List X) (ls : List Lexeme) →
     each a xs ls → length xs ≤ length ls
@@ -42,13 +38,6 @@ pub begun-shows : {b : Texts} (l : Lexeme) (ls rest : List Lexeme) (F : Texts) �
 begun-shows l ls rest F h f =
     let parts : ls ++ rest ≡ l ∷ (h.back ++ rest) = ap (λ xs. xs ++ rest) (h.parts ∙ ap (λ xs. xs ++ h.back) h.first) in
     subst F (sym parts) (f (h.back ++ rest))
-
-pub length-shown : (i : Input) → length (shown i) ≡ length i.left
-length-shown i = by i.left
-  where
-    by : (left : List Token) → length (lexemes i.text left) ≡ length left
-    by [] = refl
-    by (t ∷ ts) = ap suc (by ts)
 
 -- ---- what may come after
 
@@ -77,3 +66,10 @@ after_factor rest a = record { no_divisor = a.no_divisor; no_power = a.no_power 
 
 pub after_term : (rest : List Lexeme) → AfterSum rest → AfterTerm rest
 after_term rest a = record { no_divisor = a.no_divisor; no_power = a.no_power; no_factor = a.no_factor }
+
+-- the end of a line comes
+abbrev pub Ends : Texts
+Ends rest = (back : List Lexeme) × (rest ≡ LineEnd ∷ back)
+
+pub ends_sum : (rest : List Lexeme) → Ends rest → AfterSum rest
+ends_sum rest h = subst AfterSum (sym h.1) (record { no_divisor = refl; no_power = refl; no_factor = refl; no_plus = refl; no_minus = refl })

@@ -1,9 +1,9 @@
 -- What an input shows of its lexemes: the next one, and those after it.
 --     shown i                    the lexemes that are left
 --     sees-shown, sees_word-shown, shown-next    the tests of an input and its next, by the lexemes
-use Rattle.ct_problem.proofs.Base.{◌≡◌, ℕ, ◌+◌, ◌-◌, ◌*◌, ◌≤◌, ◌==◌, min, fold, Bool, false, List, [], ◌∷◌, Some, refl, sym, ap, ◌∙◌, arith, bytes_eq}
-use Rattle.ct_problem.proofs.Base.{Symbol, Token, slice, Input, next, tail, is_sign, is_word, sees, sees_word, spelling, spelling_in, Lexeme, Word}
-use Rattle.ct_problem.proofs.Base.{Number, Sign, Dots, LineEnd, lexeme_of, lexemes, decimal, value_of, largest_norm}
+use Rattle.ct_problem.proofs.Base.{length, suc, ◌≡◌, ℕ, ◌+◌, ◌-◌, ◌*◌, ◌≤◌, ◌==◌, min, fold, Bool, false, List, [], ◌∷◌, Some, refl, sym, ap, ◌∙◌}
+use Rattle.ct_problem.proofs.Base.{arith, bytes_eq, Symbol, Token, slice, Input, next, tail, is_sign, is_word, sees, sees_word, spelling, spelling_in}
+use Rattle.ct_problem.proofs.Base.{Lexeme, Word, Number, Sign, Dots, LineEnd, lexeme_of, lexemes, decimal, value_of, largest_norm}
 use Rattle.ct_token.specs.declared.token.Symbol.TheVariants as symbol
 use Rattle.ct_problem.specs.Input as input
 use Rattle.ct_problem.proofs.Slices.{slice_of-slice}
@@ -101,3 +101,10 @@ pub value_of-small : (ds : List ℕ) → decimal ds ≤ largest_norm → value_o
 value_of-small ds small =
     let cut = fold-capped (largest_norm + 1) ds 0 in
     omega (arith, cut, small)
+
+pub length-shown : (i : Input) → length (shown i) ≡ length i.left
+length-shown i = by i.left
+  where
+    by : (left : List Token) → length (lexemes i.text left) ≡ length left
+    by [] = refl
+    by (t ∷ ts) = ap suc (by ts)

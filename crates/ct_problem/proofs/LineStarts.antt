@@ -43,7 +43,7 @@ rank_of w =
     (cond (bytes_eq w (codes "target")) 5
     (cond (bytes_eq w (codes "order")) 6 (cond (bytes_eq w (codes "degree")) 7 (cond (bytes_eq w (codes "end")) 8 0)))))))
 
-rank_is : (k : Key) → rank_of (word_of k) ≡ rank k
+pub rank_is : (k : Key) → rank_of (word_of k) ≡ rank k
 rank_is Let = refl
 rank_is Gen = refl
 rank_is Use = refl

@@ -1,11 +1,12 @@
 -- The rules of a report's lines. Main lemma `report_lines_rule`, line by line.
 use Rattle.ct_problem.proofs.Base.{◌≡◌, ℕ, zero, suc, ◌+◌, ◌≤◌, true, false, None, List, [], ◌∷◌, ◌++◌, length, refl, ap, arith, codes, largest_norm}
-use Rattle.ct_problem.proofs.Base.{Naming, Expr, OutOfRange, Quotient, Report, Parser, Names, summed_texts, Lexeme, Texts, nothing, number, ◌▸◌}
-use Rattle.ct_problem.proofs.Base.{header, keyed, part, quotient, cofactor, cofactors, each_with, numbered, found_line}
+use Rattle.ct_problem.proofs.Base.{Naming, Expr, OutOfRange, Report, Parser, Names, summed_texts, Lexeme, Texts, nothing, ◌▸◌, header, keyed, part}
+use Rattle.ct_problem.proofs.Base.{quotient, cofactor, cofactors, each_with, numbered, found_line}
 use Rattle.ct_problem.specs.Declarations.{declared}
 use Rattle.ct_problem.specs.ReportLines as rules
 use Rattle.ct_problem.proofs.Frame.{replaced, anywhere}
-use Rattle.ct_problem.proofs.Rules.{any, Rule, grouped, reads, reads_last, passes, ends_with, word_rule, sign_rule, number_rule, exactly_rule}
+use Rattle.ct_problem.proofs.Rules.{any, Rule, grouped, reads, reads_last, passes, ends_with, number_rule, exactly_rule}
+use Rattle.ct_problem.proofs.RuleChoices.{word_rule, sign_rule}
 use Rattle.ct_problem.proofs.RuleLists.{More, Cons, no_item, one_item, whole_list}
 use Rattle.ct_problem.proofs.LineRules.{header_rule, value_rule, keyed_rule, part_rule}
 

@@ -1,15 +1,15 @@
 -- A text is read as a report where it stands for it. Main lemmas `report_spelled` and `report_taken`; `read_found_report` cites the first
 -- and `gives_no_report`.
-use Rattle.ct_problem.proofs.Base.{◌≡◌, ℕ, ◌+◌, ◌<◌, ◌≤◌, Bool, true, false, cond, List, [], ◌∷◌, ◌++◌, length, drop, Option, Some, None, Ok, Err}
-use Rattle.ct_problem.proofs.Base.{refl, sym, ap, ◌∙◌, subst, arith, codes, append-nil, largest_norm, scan_of, Token, Naming, Report, declared}
-use Rattle.ct_problem.proofs.Base.{Input, Outcome, pure, line_end, has_line_end, expect_word, ◌>>◌, Lexeme, Word, LineEnd, nothing, one, lexemes, ◌▸◌}
-use Rattle.ct_problem.proofs.Base.{ReportStandsFor, ReportStandsForNone, is_plain, input_of_scan, found, report_of}
-use Rattle.ct_problem.specs.GrammarReport as grammar
+use Rattle.ct_problem.proofs.Base.{◌≡◌, ℕ, ◌+◌, ◌<◌, ◌≤◌, Bool, true, false, cond, List, [], ◌∷◌, ◌++◌, drop, Some, None, Ok, Err, refl, sym, ap, ◌∙◌}
+use Rattle.ct_problem.proofs.Base.{subst, arith, codes, append-nil, largest_norm, scan_of, Token, Naming, Report, Input, Outcome, pure, line_end}
+use Rattle.ct_problem.proofs.Base.{has_line_end, expect_word, ◌>>◌, Word, LineEnd, nothing, one, lexemes, ◌▸◌, ReportStandsFor, ReportStandsForNone}
+use Rattle.ct_problem.proofs.Base.{is_plain, input_of_scan, found, report_of}
+use Rattle.ct_problem.proofs.Frame.{Taken-same, Takes-pure, anywhere, Ok-same, Goes_on, joined, on_first, replaced, to_nothing, shown, first_read}
+use Rattle.ct_problem.proofs.Frame.{LineEnded, line_end-gives, Takes, Takes-as, Takes-bind, Takes-next, Takes-last, Takes-line_end}
 use Rattle.ct_problem.specs.GrammarReport.{last_line}
 use Rattle.ct_problem.specs.ReportLines as rules
-use Rattle.ct_problem.proofs.Frame.{Goes_on, Follows-same, joined, on_first, replaced, to_nothing, shown, Spells-expect_word, first_read, LineEnded}
-use Rattle.ct_problem.proofs.Frame.{line_end-gives, Taken, Takes, Takes-as, Takes-bind, Takes-next, Takes-last, Takes-expect_word, Takes-line_end}
 use Rattle.ct_problem.proofs.ReportRules.{Lines, report_lines_rule}
+use Rattle.ct_problem.proofs.RuleChoices.{word_rule}
 
 -- ---- the last line
 
@@ -23,21 +23,14 @@ none_left i e = by i.left e
 Takes-at_end : Takes None rules.at_end tt nothing nothing
 unfolding rules.at_end
 Takes-at_end i used rest here e u after =
-    let none : shown i ≡ [] = e ∙ ap (λ ls. ls ++ rest) u ∙ after in
-    record {
-      left = i;
-      reads = ap (λ (left : List Token). rules.at_end_by left i) (none_left i none);
-      shows = none ∙ sym after;
-      follows = Follows-same i;
-    }
+    Taken-same (ap (λ (left : List Token). rules.at_end_by left i) (none_left i (e ∙ ap (λ ls. ls ++ rest) u ∙ after)))
+    (Takes-pure None tt anywhere i used rest here e u tt)
 
 -- the end of a line, which is there
 Takes-full_end : Takes None rules.full_line_end tt (one LineEnd) nothing
 unfolding rules.full_line_end
 Takes-full_end i used rest here e u after =
-    let t = Takes-line_end None i used rest here e u tt in
-    let head : shown i ≡ LineEnd ∷ rest = e ∙ ap (λ ls. ls ++ rest) u in
-    record { left = t.left; reads = by i.left head ∙ t.reads; shows = t.shows; follows = t.follows }
+    Taken-same (by i.left (e ∙ ap (λ ls. ls ++ rest) u)) (Takes-line_end None i used rest here e u tt)
   where
     by : (left : List Token) → lexemes i.text left ≡ LineEnd ∷ rest → rules.full_end_by left i ≡ line_end i
     by [] e = cc
@@ -46,7 +39,7 @@ Takes-full_end i used rest here e u after =
 Takes-finish : Takes None rules.finish tt last_line nothing
 unfolding rules.finish
 Takes-finish =
-    Takes-next None (Takes-expect_word None (codes "end"))
+    Takes-next None ((word_rule (codes "end")).whole tt tt)
     (Takes-as None (one LineEnd ▸ nothing) (one LineEnd) nothing nothing (rules.full_line_end >> rules.at_end) tt (λ ls h. to_nothing h) (λ rest a. a)
     (Takes-bind None _ Takes-full_end Takes-at_end (λ back rest h after. ap (λ ls. ls ++ rest) h ∙ after)))
 
@@ -73,7 +66,8 @@ finish_is i j e =
     let f = first_read (expect_word (codes "end")) (λ _. rules.full_line_end >> rules.at_end) i j tt e in
     let g = first_read rules.full_line_end (λ _. rules.at_end) f.left j tt f.second in
     let full = full_is f.left g.left g.first in
-    let s = Spells-expect_word (codes "end") i f.left f.value f.first in
+    let r = ((word_rule {bad = None} (codes "end")).sound i f.left f.value f.first).1 in
+    let s = r.spelled full.0 in
     let head : shown i ≡ Word (codes "end") ∷ shown f.left = s.parts ∙ ap (λ ls. ls ++ shown f.left) s.spells in
     let rest = by (line_end-gives f.left g.left tt full.1) full.0 (nothing_left g.left j g.second) in
     let goes_on : Goes_on i = λ none. let no : shown i ≡ [] = ap (λ (left : List Token). lexemes i.text left) none in cc in
@@ -101,8 +95,7 @@ module _ (variables : List Naming) (count : ℕ) (bytes : List ℕ) (from : ℕ)
       let end = finish_is f.left g.left g.first in
       let lines = ((report_lines_rule variables count low).sound start f.left f.value f.first).1 in
       let s = lines.spelled end.0 in
-      let value : f.value ≡ r = let pairs : ◌≡◌ {A = Report × Input} (f.value, g.left) (r, j) = cc (g.second) in
-      ap (λ (q : Report × Input). q.0) pairs in
+      let value : f.value ≡ r = (Ok-same g.second).0 in
       subst (ReportStandsFor variables count bytes from) value (record {
         plain = plain;
         lexical = sym lines.follows.same_bad ∙ end.1.1;

@@ -4,7 +4,7 @@ use Rattle.ct_problem.proofs.Base.{codes, false≢true, Command, Telescope, Chec
 use Rattle.ct_problem.proofs.Base.{slice, Missing, Input, ◌>>=◌, ◌>>◌, pure, skip, syntax, spelling_in, fresh_line, fresh_by, has_line_end, sees_word}
 use Rattle.ct_problem.proofs.Base.{is_word, IsEnd, MayFollow, Lexeme, Word, lexeme_of, lexemes, fault_if, Reading, lacks, has_needs, ending}
 use Rattle.ct_problem.proofs.Base.{ending_by, nothing_left, trailing_by, behind_end, last_line}
-use Rattle.ct_problem.proofs.Frame.{sees_word-shown, Settled, shows_word-gives, test_failed}
+use Rattle.ct_problem.proofs.Frame.{Ok-same, sees_word-shown, Settled, shows_word-gives, test_failed}
 use Rattle.ct_token.specs.declared.token.Symbol.TheVariants as symbol
 use Rattle.ct_problem.proofs.NewNames.{not_false}
 
@@ -20,7 +20,7 @@ module _ (text : List ℕ) (x y : ℕ) (m : Input) where
   unfolding at has_line_end
   fresh_is true [] bad e h = absurd (false≢true e)
   fresh_is true (t ∷ ts) bad e h = cc
-  fresh_is false [] None e h = let pairs : ◌≡◌ {A = ℕ × Input} (x, at text [] None) (y, m) = cc in (ap (λ (r : ℕ × Input). r.0) pairs, (refl, refl))
+  fresh_is false [] None e h = ((Ok-same h).0, (refl, refl))
   fresh_is false [] (Some b) e h = cc
   fresh_is false (t ∷ ts) None e h = cc
   fresh_is false (t ∷ ts) (Some b) e h = cc
@@ -31,7 +31,7 @@ module _ (text : List ℕ) (x y : ℕ) (m : Input) where
 
   behind_is : (command : Command) (left : List Token) (bad : Option ℕ) → (behind_end command >> pure x) (at text left bad) ≡ Ok (y, m) →
       (x ≡ y) × MayFollow command left bad
-  behind_is Check left bad h = let pairs : ◌≡◌ {A = ℕ × Input} (x, at text left bad) (y, m) = cc in (ap (λ (r : ℕ × Input). r.0) pairs, tt)
+  behind_is Check left bad h = ((Ok-same h).0, tt)
   behind_is Telescope left bad h = nothing_is left bad h
   behind_is Reduce left bad h = nothing_is left bad h
   behind_is Test left bad h = nothing_is left bad h

@@ -1,26 +1,23 @@
 -- What is read as the end of a line, as `..` or as a number is spelled so.
 --     line_end-gives      the end of a line, or of the text
 --     Coming i j n        a number of this value comes next, and stays
---     Spells-coming       the rule of what is done with such a number
+--     Spells-coming       a rule that asks something of such a number
 use Rattle.ct_problem.proofs.Base.{◌≡◌, ℕ, ◌≤◌, ◌==◌, Bool, true, false, cond, List, [], ◌∷◌, Option, Some, None, Ok, Err, refl, sym, ap, ◌∙◌, subst}
 use Rattle.ct_problem.proofs.Base.{arith, rules, tests, nat_lt, ltb-false, Symbol, Token, largest_norm, BadKind, NumberTooLarge, Input, Outcome}
-use Rattle.ct_problem.proofs.Base.{Parser, ◌>>=◌, ◌>>◌, and_then, pure, syntax, skip, next, line_end, line_end_by, fresh_line, fresh_by, has_line_end}
-use Rattle.ct_problem.proofs.Base.{dots, dots_by, spelling, fault_if, coming_number, Number, Dots, LineEnd, Texts, one, number, decimal}
+use Rattle.ct_problem.proofs.Base.{Parser, ◌>>=◌, ◌>>◌, and_then, pure, syntax, skip, next, line_end, line_end_by, has_line_end, dots, dots_by}
+use Rattle.ct_problem.proofs.Base.{spelling, fault_if, coming_number, Number, Dots, LineEnd, one, decimal}
 use Rattle.ct_token.specs.declared.token.Symbol.TheVariants as symbol
 use Rattle.ct_problem.specs.Input as input
 use Rattle.ct_problem.specs.Number as digits
 use Rattle.ct_problem.proofs.LexemeSteps.{shown, after_first, shown-symbol, value_of-decimal}
-use Rattle.ct_problem.proofs.Spelling.{Spelled, Spells, Spelled-as, moved, taken, taken_so}
-use Rattle.ct_problem.proofs.Following.{fresh_line-settles}
+use Rattle.ct_problem.proofs.Spelling.{Spelled, Spells, Spelled-mapped, moved, taken, taken_so}
+use Rattle.ct_problem.proofs.Following.{fresh_line-settles, Ok-same}
 
 -- ---- the ends of lines
 
 pub data LineEnded (i j : Input) : Type 0 where
   ended : Spelled (one LineEnd) i j → (has_line_end j.left ≡ false → j.bad ≡ None) → LineEnded i j
   at_end : i ≡ j → i.left ≡ [] → LineEnded i j
-
-stays : (i j : Input) (x : Unit {0}) → ◌≡◌ {A = Outcome (Unit {0})} (Ok (tt, i)) (Ok (x, j)) → i ≡ j
-stays i j x e = let pairs : ◌≡◌ {A = Unit {0} × Input} (tt, i) (x, j) = cc in ap (λ (r : Unit {0} × Input). r.1) pairs
 
 none_left : (left : List Token) → input.symbol_of left ≡ None → left ≡ []
 none_left [] e = refl
@@ -37,7 +34,7 @@ line_end_of i j x (Some symbol.Word) e h = cc
 line_end_of i j x (Some symbol.Number) e h = cc
 line_end_of i j x (Some (symbol.Sign s)) e h = cc
 line_end_of i j x (Some symbol.Dots) e h = cc
-line_end_of i j x None e h = LineEnded.at_end (stays i j x h) (none_left i.left e)
+line_end_of i j x None e h = LineEnded.at_end (Ok-same h).1 (none_left i.left e)
 
 pub line_end-gives : (i j : Input) (x : Unit {0}) → line_end i ≡ Ok (x, j) → LineEnded i j
 unfolding line_end
@@ -67,8 +64,7 @@ record Digits (i j : Input) (n : ℕ) : Type 0 where
 
 digits_of : (i j : Input) (n : ℕ) → (o : Option Symbol) → input.symbol i ≡ o → digits.digits_by o i ≡ Ok (n, j) → Digits i j n
 digits_of i j n (Some symbol.Number) e h =
-    let pairs : ◌≡◌ {A = ℕ × Input} (digits.value_of (spelling i), i) (n, j) = cc in
-    record { stays = ap (λ (r : ℕ × Input). r.1) pairs; is_number = e; value = ap (λ (r : ℕ × Input). r.0) pairs }
+    let both = Ok-same h in record { stays = both.1; is_number = e; value = both.0 }
 digits_of i j n (Some symbol.Word) e h = cc
 digits_of i j n (Some (symbol.Sign s)) e h = cc
 digits_of i j n (Some symbol.Dots) e h = cc
@@ -92,12 +88,6 @@ pub record Coming (i : Input) (n : ℕ) : Type 0 where
   pub is_number : input.symbol i ≡ Some symbol.Number
   pub value : digits.value_of (spelling i) ≡ n
   pub small : n ≤ largest_norm
-
--- the number that comes next is taken
-pub Coming-taken : (i : Input) (n limit : ℕ) → Coming i n → n ≤ limit → Spelled (number limit n) i (next i)
-Coming-taken i n limit c within =
-    Spelled-as (one (Number n)) (number limit n) i (next i) (λ ls u. (within, u))
-    (past_digits i n (record { stays = refl; is_number = c.is_number; value = c.value }) c.small)
 
 -- what the first of two rules read, and what the second did then
 pub record First {A B : Type 0} (p : Parser A) (f : A → Parser B) (i j : Input) (y : B) : Type 0 where
@@ -125,25 +115,24 @@ coming-gives i k n e =
     let r = first_read digits.digits (λ m. fault_if (nat_lt largest_norm m) NumberTooLarge >> pure m) i k n e in
     let d = digits-gives i r.left r.value r.first in
     let t = test_failed (nat_lt largest_norm r.value) NumberTooLarge (pure r.value) r.left k n r.second in
-    let pairs : ◌≡◌ {A = ℕ × Input} (r.value, r.left) (n, k) = cc (t.1) in
-    let same : r.value ≡ n = ap (λ (q : ℕ × Input). q.0) pairs in
+    let both = Ok-same t.1 in
+    let same : r.value ≡ n = both.0 in
     let small : r.value ≤ largest_norm = ltb-false largest_norm r.value t.0 in (
-      d.stays ∙ ap (λ (q : ℕ × Input). q.1) pairs,
+      d.stays ∙ both.1,
       record { is_number = d.is_number; value = d.value ∙ same; small = subst (λ (m : ℕ). m ≤ largest_norm) same small },
     )
 
-pub Spells-coming : {A : Type 0} (L : A → Texts) (f : ℕ → Parser A) →
-    ((n : ℕ) (i j : Input) (x : A) → Coming i n → f n i ≡ Ok (x, j) → Spelled (L x) i j) → Spells (coming_number >>= f) L
-Spells-coming L f rest i j x e =
+pub Spells-coming : (P : ℕ → Type 0) (f : ℕ → Parser ℕ) →
+    ((n : ℕ) (i j : Input) (x : ℕ) → n ≤ largest_norm → f n i ≡ Ok (x, j) → P n × ((n ≡ x) × (next i ≡ j)))
+    → Spells (coming_number >>= f) (λ n ls. P n × one (Number n) ls)
+Spells-coming P f is i j x e =
     let r = first_read coming_number f i j x e in
     let c = coming-gives i r.left r.value r.first in
-    rest r.value i j x c.1 (subst (λ (k : Input). f r.value k ≡ Ok (x, j)) (sym c.0) r.second)
-
-pub Spells-number : (limit : ℕ) (kind : BadKind) → Spells (digits.number limit kind) (number limit)
-unfolding digits.number
-Spells-number limit kind = Spells-coming (number limit) (λ n. fault_if (nat_lt limit n) kind >> (skip >> pure n)) (λ n i j x c e.
-    let t = test_failed (nat_lt limit n) kind (skip >> pure n) i j x e in
-    moved (number limit) i n x (next i) j t.1 (Coming-taken i n limit c (ltb-false limit n t.0)))
+    let a = is r.value i j x c.1.small (subst (λ (k : Input). f r.value k ≡ Ok (x, j)) (sym c.0) r.second) in
+    let digits = past_digits i r.value (record { stays = refl; is_number = c.1.is_number; value = c.1.value }) c.1.small in
+    subst (λ (k : Input). Spelled (λ ls. P x × one (Number x) ls) i k) a.1.1
+    (subst (λ (m : ℕ). Spelled (λ ls. P m × one (Number m) ls) i (next i)) a.1.0
+    (Spelled-mapped (λ ls u. (a.0, u)) digits))
 
 pub Spells-exactly : (n : ℕ) → n ≤ largest_norm → Spells (digits.exactly n) (λ _. one (Number n))
 unfolding digits.exactly

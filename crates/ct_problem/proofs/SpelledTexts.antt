@@ -1,18 +1,14 @@
 -- A text that is read stands for the problem that it is read as. Main lemma `problem_spelled`; `read_problem` cites `gives_spelled`.
-use Rattle.ct_problem.proofs.Base.{◌≡◌, ℕ, ◌≤◌, Bool, true, false, cond, List, [], ◌∷◌, ◌++◌, length, nat_lt, IsTrue, Option, Result, Ok, Err, IfOk}
-use Rattle.ct_problem.proofs.Base.{refl, sym, ap, ◌∙◌, subst, codes, ltb-false, append_assoc, Command, scan_of, Token, Naming, ReadFault, Problem}
-use Rattle.ct_problem.proofs.Base.{Input, Outcome, fresh_line, ◌>>=◌, and_then, pure, Says, StandsFor, IsEnd, MayFollow, Definition, Word, nothing}
+use Rattle.ct_problem.proofs.Base.{◌≡◌, ℕ, ◌≤◌, Bool, true, false, cond, List, [], ◌∷◌, ◌++◌, length, nat_lt, IsTrue, Option, None, Result, Ok, Err}
+use Rattle.ct_problem.proofs.Base.{IfOk, refl, sym, ap, ◌∙◌, subst, codes, ltb-false, append_assoc, Command, scan_of, Token, Naming, ReadFault}
+use Rattle.ct_problem.proofs.Base.{Problem, Input, Outcome, fresh_line, ◌>>=◌, and_then, pure, Says, StandsFor, IsEnd, MayFollow, Definition, Word}
 use Rattle.ct_problem.proofs.Base.{one, ◌▸◌, lexemes, most_bytes, Reading, has_needs, head, body, last_line, problem, problem_of, input_of_scan}
 use Rattle.ct_problem.proofs.Base.{too_long, reading_of, Gives}
-use Rattle.ct_problem.proofs.Frame.{Goes_on, Settled, lexemes-append, used-taken, fresh_line-settles, joined, Spelled, Goes, Goes-whole, first_read}
+use Rattle.ct_problem.proofs.Frame.{Ok-same, Goes_on, Settled, lexemes-append, used-taken, fresh_line-settles, joined, Spelled, first_read}
 use Rattle.ct_problem.specs.GrammarProblem as grammar
 use Rattle.ct_problem.specs.ReadProblem.{value_of}
 use Rattle.ct_problem.proofs.SpelledEnds.{Last, last_is}
-use Rattle.ct_problem.proofs.SpelledProblems.{Before, Goes-head, Goes-body}
-
--- the lines before the last one
-Goes-lines : Goes nothing (head >>= (λ h. body h.0 h.1)) Before
-Goes-lines = Goes-whole _ Goes-head Goes-body
+use Rattle.ct_problem.proofs.ProblemRules.{Before, problem_lines_rule}
 
 -- the tokens of a problem that is read, up to this place
 pub record IsRead (command : Command) (p : Reading) (i : Input) (at : ℕ) : Type 0 where
@@ -40,9 +36,9 @@ tokens_are command p i k at s l =
       rest = l.rest;
       parts = s.follows.parts ∙ ap (λ ts. front ++ ts) l.parts ∙ sym (append_assoc front (l.word ∷ []) (l.end ++ l.rest));
       says = record {
-        names = s.spells.few;
+        names = s.spells.0;
         spelled = subst (grammar.lines p ▸ one (Word (codes "end"))) (sym spelled)
-            (joined s.used (Word (codes "end") ∷ []) s.spells.spelled refl);
+            (joined s.used (Word (codes "end") ∷ []) s.spells.1 refl);
       };
       ends = l.ends;
       behind = l.behind;
@@ -59,18 +55,18 @@ problem_is command i j r e =
     let f = first_read head (λ names. body names.0 names.1 >>= (λ p. last_line command p >>= (λ end. pure (p, end)))) i j r e in
     let g = first_read (body f.value.0 f.value.1) (λ p. last_line command p >>= (λ end. pure (p, end))) f.left j r f.second in
     let h = first_read (last_line command g.value) (λ end. pure (g.value, end)) g.left j r g.second in
-    let pairs : ◌≡◌ {A = (Reading × ℕ) × Input} ((g.value, h.value), h.left) (r, j) = cc (h.second) in
+    let both = Ok-same h.second in
     let whole : (head >>= (λ names. body names.0 names.1)) i ≡ Ok (g.value, g.left) =
     ap (λ (o : Outcome (List Naming × List Definition)). and_then o (λ names. body names.0 names.1)) f.first ∙ g.first in
-    let going = Goes-lines i g.left g.value whole in
+    let going = ((problem_lines_rule None).sound i g.left g.value whole).1 in
     let settled : Settled g.left = going.follows.settles (head_settles i f.left f.value f.first) in
     let last = last_is command g.value g.left.text g.left.bad h.value h.left g.left.left settled h.first in
     let some : Goes_on g.left = λ none. cc (none, last.parts) in
-    let s = going.spelled [] refl some in
+    let s = going.spelled some in
     let here : Last command g.value i.text g.left.left i.bad h.value =
     subst (λ (t : List ℕ). Last command g.value t g.left.left i.bad h.value) s.follows.same_text
     (subst (λ (b : Option ℕ). Last command g.value g.left.text g.left.left b h.value) s.follows.same_bad last) in
-    subst (λ (q : Reading × ℕ). IsRead command q.0 i q.1) (ap (λ (q : (Reading × ℕ) × Input). q.0) pairs)
+    subst (λ (q : Reading × ℕ). IsRead command q.0 i q.1) both.0
     (tokens_are command g.value i g.left h.value s here)
 
 pub problem_spelled : (command : Command) (bytes : List ℕ) (r : Reading × ℕ) → problem_of command bytes ≡ Ok r → StandsFor command bytes r.0 r.1

@@ -7,11 +7,11 @@ use Rattle.ct_problem.proofs.Base.{problem, problem_of, input_of_scan, too_long,
 use Rattle.ct_problem.proofs.Frame.{lexemes-append, shown, IsFresh, Taken}
 use Rattle.std.proofs.Common.{le-ltb}
 use Rattle.ct_problem.specs.ReadProblem.{value_of}
-use Rattle.ct_problem.proofs.LexemeStarts.{length-shown}
-use Rattle.ct_problem.proofs.LineStarts.{AfterLines, End, fresh_before}
 use Rattle.ct_problem.proofs.SpelledEnds.{Last}
-use Rattle.ct_problem.proofs.TakenBodies.{Takes-all_lines}
 use Rattle.ct_problem.proofs.TakenEnds.{end_taken}
+use Rattle.ct_problem.proofs.LexemeSteps.{length-shown}
+use Rattle.ct_problem.proofs.LineStarts.{AfterLines, End, fresh_before}
+use Rattle.ct_problem.proofs.ProblemRules.{problem_lines_rule}
 
 -- ---- the last word
 
@@ -88,7 +88,7 @@ module _ (command : Command) (bytes : List ℕ) where
 
     lines_taken : Taken (head >>= (λ names. body names.0 names.1)) start p after
     unfolding start front
-    lines_taken = Takes-all_lines (scan_of bytes 0).bad p s.says.names start front after refl split s.says.spelled.first may_follow
+    lines_taken = (problem_lines_rule (scan_of bytes 0).bad).whole p tt start front after refl split (s.says.names, s.says.spelled.first) may_follow
 
     last_left : (t : Taken (head >>= (λ names. body names.0 names.1)) start p after) → Last command p bytes t.left.left (scan_of bytes 0).bad at
     unfolding start after behind

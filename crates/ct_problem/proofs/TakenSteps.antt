@@ -1,17 +1,17 @@
 -- The ends of lines, `..` and numbers are read as what they stand for.
 --     IsFresh bad rest      where the step to a line meets no byte that begins no token
---     Takes-coming          what is done with the number that comes next
+--     Takes-coming          a rule that asks something of the number that comes next
 use Rattle.ct_problem.proofs.Base.{◌≡◌, ℕ, ◌≤◌, ◌==◌, Bool, true, false, cond, ◌||◌, List, [], ◌∷◌, ◌++◌, Option, Some, None, Ok, IsTrue, refl, ap}
-use Rattle.ct_problem.proofs.Base.{◌∙◌, arith, rules, tests, nat_lt, Symbol, Token, is_line_end, slice, largest_norm, BadKind, NumberTooLarge, Input}
-use Rattle.ct_problem.proofs.Base.{Outcome, Parser, ◌>>=◌, ◌>>◌, and_then, pure, syntax, skip, next, has_line_end, fresh_line, fresh_by, line_end}
-use Rattle.ct_problem.proofs.Base.{line_end_by, dots, dots_by, spelling, fault_if, coming_number, Lexeme, Word, Number, Sign, Dots, LineEnd, Texts}
-use Rattle.ct_problem.proofs.Base.{nothing, one, number, lexeme_of, lexemes}
+use Rattle.ct_problem.proofs.Base.{◌∙◌, arith, rules, tests, nat_lt, Symbol, Token, is_line_end, slice, largest_norm, NumberTooLarge, Input, Outcome}
+use Rattle.ct_problem.proofs.Base.{Parser, ◌>>=◌, ◌>>◌, and_then, pure, syntax, skip, next, has_line_end, fresh_line, fresh_by, line_end, line_end_by}
+use Rattle.ct_problem.proofs.Base.{dots, dots_by, spelling, fault_if, coming_number, Lexeme, Word, Number, Sign, Dots, LineEnd, Texts, nothing, one}
+use Rattle.ct_problem.proofs.Base.{lexeme_of, lexemes}
 use Rattle.ct_token.specs.declared.token.Symbol.TheVariants as symbol
 use Rattle.ct_problem.specs.Number as digits
 use Rattle.ct_problem.proofs.LexemeSteps.{shown, value_of-small}
-use Rattle.ct_problem.proofs.Following.{Follows-same, Follows-then, Follows-next, fresh_line-settles}
+use Rattle.ct_problem.proofs.Following.{Follows-then, Follows-next, fresh_line-settles}
 use Rattle.ct_problem.proofs.ShownSymbols.{shows_a_number, shows_dots, shows_line_end, decimal-shown, next-shown, same_number}
-use Rattle.ct_problem.proofs.Taking.{Taken-next, Takes, anywhere, headed, Takes-last, Takes-skip, Takes-fault_if}
+use Rattle.ct_problem.proofs.Taking.{Taken-same, Takes-pure, Taken-next, Takes, anywhere, headed}
 
 -- ---- lines
 
@@ -58,14 +58,9 @@ module _ (bad : Option ℕ) where
   pub Takes-fresh_line : Takes bad fresh_line tt nothing (IsFresh bad)
   unfolding fresh_line
   Takes-fresh_line i used rest here e u after =
-      let here_shown : shown i ≡ rest = e ∙ ap (λ ls. ls ++ rest) u in
-      record {
-        left = i;
-        reads = ap (λ (b : Bool). fresh_by b i.bad i) (has_line_end-shown i ∙ ap has_end here_shown)
-            ∙ ap (λ (o : Option ℕ). fresh_by (has_end rest) o i) here ∙ fresh_is bad rest i after;
-        shows = here_shown;
-        follows = Follows-same i;
-      }
+      Taken-same
+      (ap (λ (b : Bool). fresh_by b i.bad i) (has_line_end-shown i ∙ ap has_end (e ∙ ap (λ ls. ls ++ rest) u))
+      ∙ ap (λ (o : Option ℕ). fresh_by (has_end rest) o i) here ∙ fresh_is bad rest i after) (Takes-pure bad tt anywhere i used rest here e u tt)
 
   pub Takes-line_end : Takes bad line_end tt (one LineEnd) (IsFresh bad)
   unfolding line_end
@@ -105,26 +100,12 @@ module _ (bad : Option ℕ) where
       ap (λ o. and_then o (λ m. fault_if (nat_lt largest_norm m) NumberTooLarge >> pure m)) (digits_read i n rest head low)
       ∙ ap (λ (b : Bool). (fault_if b NumberTooLarge >> pure n) i) within
 
-  -- what is done with the number that comes next
-  pub Takes-coming : {A : Type 0} (x : A) (n : ℕ) (F : Texts) (f : ℕ → Parser A) → n ≤ largest_norm → Takes bad (f n) x (one (Number n)) F →
-      Takes bad (coming_number >>= f) x (one (Number n)) F
-  Takes-coming x n F f low t i used rest here e u after =
-      let r = t i used rest here e u after in
-      record {
-        left = r.left;
-        reads = ap (λ o. and_then o f) (coming_read i n rest (headed bad i used rest (Number n) e u) low) ∙ r.reads;
-        shows = r.shows;
-        follows = r.follows;
-      }
-
-  pub Takes-number : (limit n : ℕ) (kind : BadKind) → limit ≤ largest_norm → Takes bad (digits.number limit kind) n (number limit n) anywhere
-  unfolding digits.number
-  Takes-number limit n kind low i used rest here e u after =
-      let small = u.0 in
-      let within : nat_lt limit n ≡ false = first_of (search (rules, tests), grind (arith, tests)) in
-      Takes-coming n n anywhere (λ m. fault_if (nat_lt limit m) kind >> (skip >> pure m)) (omega (arith, small, low))
-      (Takes-fault_if bad _ within (Takes-last bad (λ _. pure n) (Takes-skip bad (Number n) refl) (λ k. refl)))
-      i used rest here e u.1 tt
+  -- a rule that asks something of the number that comes next
+  pub Takes-coming : (n : ℕ) (f : ℕ → Parser ℕ) → n ≤ largest_norm → ((i : Input) → f n i ≡ Ok (n, next i)) →
+      Takes bad (coming_number >>= f) n (one (Number n)) anywhere
+  Takes-coming n f low does i used rest here e u after =
+      let head = headed bad i used rest (Number n) e u in
+      Taken-next bad (coming_number >>= f) i n (Number n) rest head refl (ap (λ o. and_then o f) (coming_read i n rest head low) ∙ does i)
 
   pub Takes-exactly : (n : ℕ) → n ≤ largest_norm → Takes bad (digits.exactly n) tt (one (Number n)) anywhere
   unfolding digits.exactly

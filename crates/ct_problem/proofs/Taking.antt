@@ -2,13 +2,12 @@
 --     Takes bad p x L F       from lexemes of L, before a rest that F allows, p gives x and leaves the rest; the first byte that
 --                             begins no token stands at the place bad, if there is one
 --     Takes-bind and others   the steps that every rule is made of
-use Rattle.ct_problem.proofs.Base.{◌≡◌, ℕ, Bool, true, false, List, ◌∷◌, ◌++◌, Option, Ok, refl, ap, ◌∙◌, subst, append_assoc, BadKind, Input, Parser}
-use Rattle.ct_problem.proofs.Base.{◌>>=◌, ◌>>◌, and_then, pure, skip, next, past, sees, eat, expect, sees_word, eat_word, expect_word, required}
-use Rattle.ct_problem.proofs.Base.{fault_if, Lexeme, Word, Sign, Texts, nothing, one, ◌▸◌}
-use Rattle.ct_problem.proofs.LexemeSteps.{shown, shows_sign, shows_word, sees-shown, sees_word-shown}
+use Rattle.ct_problem.proofs.Base.{◌≡◌, ℕ, Bool, false, List, ◌∷◌, ◌++◌, Option, Ok, refl, ap, ◌∙◌, subst, append_assoc, BadKind, Input, Parser}
+use Rattle.ct_problem.proofs.Base.{◌>>=◌, ◌>>◌, and_then, pure, skip, next, fault_if, Lexeme, Texts, nothing, one, ◌▸◌}
+use Rattle.ct_problem.proofs.LexemeSteps.{shown}
 use Rattle.ct_problem.proofs.JoinedTexts.{joined_to_right}
 use Rattle.ct_problem.proofs.Following.{Follows, Follows-same, Follows-then, Follows-past, ends_line}
-use Rattle.ct_problem.proofs.ShownSymbols.{next-shown, same_number, same_word}
+use Rattle.ct_problem.proofs.ShownSymbols.{next-shown}
 
 pub record Taken {A : Type 0} (p : Parser A) (i : Input) (x : A) (rest : List Lexeme) : Type 0 where
   pub left : Input
@@ -22,6 +21,10 @@ Takes bad p x L F = (i : Input) (used rest : List Lexeme) → i.bad ≡ bad → 
 -- whatever comes after
 abbrev pub anywhere : Texts
 anywhere rest = Unit {0}
+
+-- a rule that does the same here
+pub Taken-same : {A : Type 0} {p q : Parser A} {i : Input} {x : A} {rest : List Lexeme} → p i ≡ q i → Taken q i x rest → Taken p i x rest
+Taken-same same t = record { left = t.left; reads = same ∙ t.reads; shows = t.shows; follows = t.follows }
 
 module _ (bad : Option ℕ) where
   pub Taken-bind : {A B : Type 0} (p : Parser A) (f : A → Parser B) (i : Input) (x : A) (y : B) (middle rest : List Lexeme) (t : Taken p i x middle) →
@@ -56,15 +59,10 @@ module _ (bad : Option ℕ) where
         let t = first i h.front (h.back ++ rest) here split h.first (between h.back rest h.second after) in
         Taken-bind p f i x y (h.back ++ rest) rest t (second t.left h.back rest (t.follows.same_bad ∙ here) t.shows h.second after)
 
-    -- where the first rule needs nothing of what comes after it
-    pub Takes-then : {x : A} {y : B} {L M F : Texts} {p : Parser A} (f : A → Parser B) → Takes bad p x L anywhere → Takes bad (f x) y M F →
-        Takes bad (p >>= f) y (L ▸ M) F
-    Takes-then {x} {y} {L} {M} {F} {p} f first second = Takes-bind f first second (λ back rest m after. tt)
-
-    -- where nothing is done with what the first rule gives
+    -- where nothing is done with what the first rule gives, which needs nothing of what comes after it
     pub Takes-next : {x : A} {y : B} {L M F : Texts} {p : Parser A} {q : Parser B} → Takes bad p x L anywhere → Takes bad q y M F →
         Takes bad (p >> q) y (L ▸ M) F
-    Takes-next {x} {y} {L} {M} {F} {p} {q} first second = Takes-then (λ _. q) first second
+    Takes-next {q = q} first second = Takes-bind (λ _. q) first second (λ back rest m after. tt)
 
     -- where the second rule takes nothing
     pub Takes-last : {x : A} {y : B} {L F : Texts} {p : Parser A} (f : A → Parser B) → Takes bad p x L F → ((i : Input) → f x i ≡ Ok (y, i)) →
@@ -88,45 +86,8 @@ module _ (bad : Option ℕ) where
   pub Takes-skip : (l : Lexeme) → ends_line l ≡ false → Takes bad skip tt (one l) anywhere
   Takes-skip l plain i used rest here e u after = Taken-next skip i tt l rest (headed i used rest l e u) plain refl
 
-  pub Takes-eat : (s : ℕ) → Takes bad (eat s) true (one (Sign s)) anywhere
-  unfolding eat
-  Takes-eat s i used rest here e u after =
-      let head = headed i used rest (Sign s) e u in
-      let seen : sees s i ≡ true = sees-shown s i ∙ ap (shows_sign s) head ∙ same_number s in
-      Taken-next (eat s) i true (Sign s) rest head refl (ap (λ (b : Bool). Ok (b, past b i)) seen)
-
-  pub Takes-no_sign : (s : ℕ) → Takes bad (eat s) false nothing (λ rest. shows_sign s rest ≡ false)
-  unfolding eat
-  Takes-no_sign s i used rest here e u after =
-      let here_shown : shown i ≡ rest = e ∙ ap (λ ls. ls ++ rest) u in
-      let seen : sees s i ≡ false = sees-shown s i ∙ ap (shows_sign s) here_shown ∙ after in
-      record { left = i; reads = ap (λ (b : Bool). Ok (b, past b i)) seen; shows = here_shown; follows = Follows-same i }
-
-  pub Takes-eat_word : (w : List ℕ) → Takes bad (eat_word w) true (one (Word w)) anywhere
-  unfolding eat_word
-  Takes-eat_word w i used rest here e u after =
-      let head = headed i used rest (Word w) e u in
-      let seen : sees_word w i ≡ true = sees_word-shown w i ∙ ap (shows_word w) head ∙ same_word w in
-      Taken-next (eat_word w) i true (Word w) rest head refl (ap (λ (b : Bool). Ok (b, past b i)) seen)
-
-  pub Takes-no_word : (w : List ℕ) → Takes bad (eat_word w) false nothing (λ rest. shows_word w rest ≡ false)
-  unfolding eat_word
-  Takes-no_word w i used rest here e u after =
-      let here_shown : shown i ≡ rest = e ∙ ap (λ ls. ls ++ rest) u in
-      let seen : sees_word w i ≡ false = sees_word-shown w i ∙ ap (shows_word w) here_shown ∙ after in
-      record { left = i; reads = ap (λ (b : Bool). Ok (b, past b i)) seen; shows = here_shown; follows = Follows-same i }
-
-  pub Takes-expect : (s : ℕ) → Takes bad (expect s) tt (one (Sign s)) anywhere
-  unfolding expect
-  Takes-expect s = Takes-last required (Takes-eat s) (λ i. refl)
-
-  pub Takes-expect_word : (w : List ℕ) → Takes bad (expect_word w) tt (one (Word w)) anywhere
-  unfolding expect_word
-  Takes-expect_word w = Takes-last required (Takes-eat_word w) (λ i. refl)
-
   -- where a test fails
   pub Takes-fault_if : {A : Type 0} {x : A} {L F : Texts} {b : Bool} (kind : BadKind) {p : Parser A} → b ≡ false → Takes bad p x L F →
       Takes bad (fault_if b kind >> p) x L F
   Takes-fault_if {x} {L} {F} {b} kind {p} passed t i used rest here e u after =
-      let r = t i used rest here e u after in
-      record { left = r.left; reads = ap (λ (c : Bool). (fault_if c kind >> p) i) passed ∙ r.reads; shows = r.shows; follows = r.follows }
+      Taken-same (ap (λ (c : Bool). (fault_if c kind >> p) i) passed) (t i used rest here e u after)
