@@ -8,3 +8,6 @@ pub mod RowSteps
 pub mod EliminationKept
 pub mod Refuted
 pub mod MultipliedOut
+pub mod DividedOut
+pub mod FreeDenominators
+pub mod NullEntries

@@ -2,7 +2,8 @@
 -- An echelon form of one matrix is one of every matrix that the right side makes the left side of.
 use Rattle.ct_linsolve.proofs.Base.{◌≡◌, ◌⊎◌, inl, inr, refl, ℕ, zero, suc, ◌+◌, ◌-◌, ◌<◌, ◌≤◌, Bool, true, false, cond, eqb, Some, None, List, []}
 use Rattle.ct_linsolve.proofs.Base.{◌∷◌, ◌++◌, length, map, sym, ◌∙◌, ap, subst, arith, append_assoc, append-nil, eqb-true, Contains, range_with_len}
-use Rattle.ct_linsolve.proofs.Base.{eqb-false, get_or-map-range_with_len, Polynomial, polys, Pivot, AreInOrder, IsEchelon, IsElimination, matrix_of}
+use Rattle.ct_linsolve.proofs.Base.{eqb-false, get_or-map-range_with_len, Polynomial, polys, Pivot, AreInOrder, IsEchelon, IsElimination, KeepsMatrix}
+use Rattle.ct_linsolve.proofs.Base.{matrix_of}
 use Rattle.ct_linsolve.proofs.Base.{Refutes, Isolates, finished, contains_none, contains_cases}
 use Rattle.std.proofs.Math.Logic.{∥∥₁_elim}
 use Rattle.ct_linsolve.specs.EchelonForm.{IsEchelonOf, IsEchelonForm, IsGiven, sides}
@@ -27,7 +28,7 @@ listed_more f a (suc k) done more some is =
     let same : k ≡ suc k - 1 = omega arith in λ i. listed_behind f (a + 1) (same i) (sym is i)
 
 -- the pivot of its column is found
-pivot_found : (ps : List Pivot) (p : Pivot) → AreInOrder ps → Contains ps p → pivot_of p.column ps ≡ Some p
+pub pivot_found : (ps : List Pivot) (p : Pivot) → AreInOrder ps → Contains ps p → pivot_of p.column ps ≡ Some p
 pivot_found [] p order has = absurd (contains_none p has)
 pivot_found (q ∷ ps) p order has = by (eqb q.column p.column) refl (contains_cases q p ps has) (pivot_found ps p order.1)
   where
@@ -38,23 +39,26 @@ pivot_found (q ∷ ps) p order has = by (eqb q.column p.column) refl (contains_c
     by false other (inl same) later = absurd (eqb-false q.column p.column other (ap (λ q. q.column) same))
     by false other (inr there) later = later there
 
+-- with other multipliers, of another matrix too
+pub moved :
+    (certs m done : ℕ) (A : ℕ → ℕ → Polynomial) (e : Eliminated) (B right : ℕ → ℕ → Polynomial) →
+    KeepsMatrix polys (length e.left) m A (record { left = matrix_of polys.zero e.left; right = right }) →
+    IsEchelon polys (length e.left) m B certs done (sides e.left e.right) e.pivots →
+    IsEchelon polys (length e.left) m A certs done (record { left = matrix_of polys.zero e.left; right = right }) e.pivots
+moved certs m done A e B right keeps is = record {
+  keeps = keeps;
+  below = is.below;
+  in_order = is.in_order;
+  cleared = λ p has. let was = is.cleared p has in
+      record { row_in_range = was.row_in_range; column_in_range = was.column_in_range; nonzero = was.nonzero; elsewhere = was.elsewhere };
+  staggered = is.staggered;
+  unused_zero = is.unused_zero;
+  chosen = is.chosen;
+}
+
 module _ (certs m : ℕ) (A : ℕ → ℕ → Polynomial) (e : Eliminated) (given : IsGiven m A e) where
   abbrev n : ℕ
   n = length e.left
-
-  -- of this matrix too
-  moved : (B : ℕ → ℕ → Polynomial) → IsEchelon polys n m B certs m (sides e.left e.right) e.pivots
-      → IsEchelon polys n m A certs m (sides e.left e.right) e.pivots
-  moved B is = record {
-    keeps = record { gives = given; injective = is.keeps.injective };
-    below = is.below;
-    in_order = is.in_order;
-    cleared = λ p has. let was = is.cleared p has in
-        record { row_in_range = was.row_in_range; column_in_range = was.column_in_range; nonzero = was.nonzero; elsewhere = was.elsewhere };
-    staggered = is.staggered;
-    unused_zero = is.unused_zero;
-    chosen = is.chosen;
-  }
 
   Isolates-prop : (u : ℕ → Polynomial) (g : ℕ) → IsProp (Isolates polys n m A u g)
   Isolates-prop u g = hlevel polys.is_set
@@ -63,7 +67,8 @@ module _ (certs m : ℕ) (A : ℕ → ℕ → Polynomial) (e : Eliminated) (give
       (rows : List Row) → rows ≡ refuting_rows certs m e.right e.pivots → e.free ≡ None → (B : ℕ → ℕ → Polynomial) → IsEchelonOf n certs m B e →
       Refutes polys n m A (λ c. certs ≤ c) (column_row rows certs)
   refuted rows rows_are none B of =
-      let is = moved B (subst (λ o. IsElimination polys n m B certs o (sides e.left e.right) e.pivots) none of.elimination) in
+      let was = subst (λ o. IsElimination polys n m B certs o (sides e.left e.right) e.pivots) none of.elimination in
+      let is = moved certs m m A e B (matrix_of polys.zero e.right) (record { gives = given; injective = was.keeps.injective }) was in
       (finished n m A certs (sides e.left e.right) e.pivots).refutes is (column_row rows certs) (λ p has past k small. row_is p (is.below p has)
       (pivot_found e.pivots p is.in_order has) past k)
     where

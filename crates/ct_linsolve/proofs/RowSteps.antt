@@ -13,6 +13,7 @@ use Rattle.ct_poly.proofs.DividedTerms.{divided_whole}
 use Rattle.ct_poly.proofs.WholeDivisors.{each_divides}
 use Rattle.ct_linsolve.specs.Elimination.{crossed_entry, checked_crossed, checked_divided, checked_other, row_after, checked_rows}
 use Rattle.ct_linsolve.specs.Rows.{Row, entry, row_at, quotient_or_none, quotients, or_kept, over_divisor, over_content, row_content}
+use Rattle.ct_linsolve.specs.Slimming.{IsOver}
 use Rattle.ct_linsolve.proofs.FromZero.{each_at}
 use Rattle.ct_linsolve.proofs.Pivots.{form_nonzero, one_nonzero}
 use Rattle.ct_linsolve.proofs.RowContents.{DividesRow, divides_row, row_content_is}
@@ -31,18 +32,11 @@ cross_is p a x y r fits =
 
 -- ---- divided rows
 
--- r is a nonzero factor times t
-record IsOver (r t : Row) : Type 0 where
-  factor : Polynomial
-  nonzero : factor ≢ polys.zero
-  lengths : length t ≡ length r
-  entries : (j : ℕ) → entry r j ≡ polys.◌*◌ factor (entry t j)
-
-same_row : (r : Row) → IsOver r r
+pub same_row : (r : Row) → IsOver r r
 same_row r = record { factor = polys.one; nonzero = one_nonzero; lengths = refl; entries = λ j. sym (one_mul polys (entry r j)) }
 
 -- one after the other
-over_over : {r s t : Row} → IsOver r s → IsOver s t → IsOver r t
+pub over_over : {r s t : Row} → IsOver r s → IsOver s t → IsOver r t
 over_over {r} {s} {t} first second = record {
   factor = polys.◌*◌ first.factor second.factor;
   nonzero = product_nonzero polys polys_domain first.factor second.factor first.nonzero second.nonzero;
@@ -50,7 +44,7 @@ over_over {r} {s} {t} first second = record {
   entries = λ j. first.entries j ∙ ap (polys.◌*◌ first.factor) (second.entries j) ∙ sym (polys.mul_assoc first.factor second.factor (entry t j));
 }
 
-one_quotient : (f x q : Polynomial) → quotient_or_none f x ≡ Ok q → x ≡ polys.◌*◌ f q
+pub one_quotient : (f x q : Polynomial) → quotient_or_none f x ≡ Ok q → x ≡ polys.◌*◌ f q
 unfolding times
 one_quotient f x q found = by (quotient x f) refl found
   where
@@ -70,17 +64,20 @@ all_quotients f =
     more n x y xs ys first rest zero = one_quotient f x y first
     more n x y xs ys first rest (suc j) = rest j
 
+pub quotients_over : (f : Polynomial) (r q : Row) → f ≢ polys.zero → quotients f r ≡ Ok q → IsOver r q
+quotients_over f r q some found = record {
+  factor = f;
+  nonzero = some;
+  lengths = each_length (λ _ x. quotient_or_none f x) 1 r q found;
+  entries = all_quotients f 1 r q found;
+}
+
 divisor_over : (f : Polynomial) (r : Row) → f ≢ polys.zero → IsOver r (over_divisor f r)
 unfolding over_divisor
 divisor_over f r some = by (quotients f r) refl
   where
     by : (o : Result Row (Unit {0})) → quotients f r ≡ o → IsOver r (or_kept r o)
-    by (Ok q) found = record {
-      factor = f;
-      nonzero = some;
-      lengths = each_length (λ _ x. quotient_or_none f x) 1 r q found;
-      entries = all_quotients f 1 r q found;
-    }
+    by (Ok q) found = quotients_over f r q some found
     by (Err e) none = same_row r
 
 number_nonzero : (g : ℕ) → 0 < g → number (pos g) ≢ polys.zero

@@ -7,6 +7,8 @@ pub mod DividedRow
 pub mod EchelonForm
 pub mod Refuting
 pub mod Products
+pub mod Slimming
+pub mod NullVector
 -- what the code's types stand for
 pub mod Views
 pub mod EchelonViews

@@ -10,8 +10,11 @@ use Rattle.ct_linsolve.specs.declared.pivot.Pivot.{Pivot as PivotCode}
 abbrev pub rows_of : List (Vec Polynomial) → List Row
 rows_of rows = map (λ row. row.items) rows
 
+abbrev pub pivot_view : PivotCode → Pivot
+pivot_view p = record { row = p.row; column = p.column }
+
 abbrev pub pivots_of : List PivotCode → List Pivot
-pivots_of ps = map (λ p. record { row = p.row; column = p.column }) ps
+pivots_of ps = map pivot_view ps
 
 abbrev pub eliminated : List (Vec Polynomial) → List (Vec Polynomial) → List PivotCode → Option ℕ → Eliminated
 eliminated left right pivots free =

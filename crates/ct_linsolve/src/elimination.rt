@@ -1,10 +1,8 @@
 // Elimination of a matrix.
-ghost use Rattle.std.specs.Prelude.{◌≡◌, ◌<◌, ◌++◌, IfOk, map, take, drop, length, cond, eqb};
+ghost use Rattle.std.specs.Prelude.{◌≡◌, ◌<◌, ◌++◌, IfOk, map, take, drop, cond, eqb};
 ghost use Rattle.ct_algebra.specs.Polynomial.{polys};
 ghost use Rattle.ct_checked.specs.Checked.{AnswersBy};
-ghost use Rattle.ct_telescoping.specs.Elimination.{matrix_of};
-ghost use Rattle.ct_linsolve.specs.EchelonForm.{IsEchelonOf};
-ghost use Rattle.ct_linsolve.specs.EchelonViews.{eliminated_of};
+ghost use Rattle.ct_linsolve.specs.EchelonViews.{IsEchelonOfMatrix, eliminated_of};
 ghost use Rattle.ct_linsolve.specs.Elimination.{checked_elimination, unit_row, with_unit};
 ghost use Rattle.ct_linsolve.specs.Views.{rows_of};
 
@@ -22,7 +20,7 @@ use std::alloc::Global;
 #[tactic(auto, unfolding(crate::specs::Elimination::checked_elimination))]
 pub fn eliminate(alloc: Global, matrix: &Matrix) -> Result<Echelon, Fault>
     ensures steps { AnswersBy eliminated_of (checked_elimination matrix.now.certs matrix.now.width (rows_of matrix.now.rows.items)) result }
-    ensures certified { IfOk result (λ e. IsEchelonOf (length matrix.now.rows.items) matrix.now.certs matrix.now.width (matrix_of polys.zero (rows_of matrix.now.rows.items)) (eliminated_of e)) }
+    ensures certified { IfOk result (λ e. IsEchelonOfMatrix matrix.now e) }
     ensures same { IfOk result (λ e. (e.width ≡ matrix.now.width) × (e.certs ≡ matrix.now.certs)) }
 {
     let rows = with_unit(alloc, matrix.rows.as_slice())?;

@@ -202,7 +202,11 @@ fn cross_by_steps(alloc: Global, p: &Poly, a: &Poly, x: &Poly, y: &Poly) -> Resu
 }
 
 /// The quotients of all entries, or `None` where one has none.
-fn quotients(alloc: Global, by: &Poly, row: &[Poly]) -> Result<Option<Vec<Poly>>, NoMemory>
+pub(crate) fn quotients(
+    alloc: Global,
+    by: &Poly,
+    row: &[Poly],
+) -> Result<Option<Vec<Poly>>, NoMemory>
     requires { by.now ≢ polys.zero }
     ensures { IfOk result (λ o. MatchOption o (quotients by.now row.now ≡ Err tt) (λ v. quotients by.now row.now ≡ Ok v.items)) }
 {

@@ -3,14 +3,13 @@ ghost use Rattle.std.specs.Prelude.{◌≡◌, ◌<◌, IfOk, length};
 ghost use Rattle.std.specs.List.{All};
 ghost use Rattle.ct_algebra.specs.Polynomial.{polys};
 ghost use Rattle.ct_checked.specs.Checked.{Answers, AnswersBy};
-ghost use Rattle.ct_telescoping.specs.Elimination.{matrix_of};
-ghost use Rattle.ct_linsolve.specs.EchelonForm.{AreProducts};
+ghost use Rattle.ct_linsolve.specs.EchelonViews.{AreProductsOf};
 ghost use Rattle.ct_linsolve.specs.Products.{checked_entry, checked_product, checked_products, plus_product, with_product};
-ghost use Rattle.ct_linsolve.specs.Rows.{entry, row_at};
+ghost use Rattle.ct_linsolve.specs.Rows.{entry};
 ghost use Rattle.ct_linsolve.specs.Views.{rows_of};
 
 use crate::entries::append;
-use crate::rows::append_row;
+use crate::rows::{append_row, row_or_none};
 use ct_mono::Fault;
 use ct_poly::{Matrix, Poly};
 use std::alloc::Global;
@@ -23,7 +22,7 @@ pub fn multiply_out(
 ) -> Result<Vec<Vec<Poly>>, Fault>
     requires { All (λ row. length row.items ≡ length matrix.now.rows.items) rows.now }
     ensures steps { AnswersBy (λ v. rows_of v.items) (checked_products matrix.now.width (rows_of matrix.now.rows.items) (rows_of rows.now)) result }
-    ensures value { IfOk result (λ v. AreProducts (length matrix.now.rows.items) matrix.now.width (matrix_of polys.zero (rows_of matrix.now.rows.items)) (rows_of rows.now) (rows_of v.items)) }
+    ensures value { IfOk result (λ v. AreProductsOf matrix.now (rows_of rows.now) (rows_of v.items)) }
 {
     let mut done = Vec::with_capacity(alloc, rows.len())?;
     let mut rest = rows;
@@ -96,15 +95,6 @@ fn plus_product(alloc: Global, sum: &Poly, x: &Poly, y: &Poly) -> Result<Poly, F
 {
     let product = x.mul(alloc, y)?;
     sum.add(alloc, &product)
-}
-
-fn row_or_none<'a>(rows: &'a [Vec<Poly>], place: usize) -> &'a [Poly]
-    ensures { result.now ≡ row_at (rows_of rows.now) place }
-{
-    match rows.get(place) {
-        Some(row) => row.as_slice(),
-        None => &[],
-    }
 }
 
 fn entry_or<'a>(row: &'a [Poly], column: usize, zero: &'a Poly) -> &'a Poly

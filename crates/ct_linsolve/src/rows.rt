@@ -1,10 +1,11 @@
 // All rows at a pivot, and the row in which a pivot is found.
-ghost use Rattle.std.specs.Prelude.{◌≡◌, ◌≢◌, ◌<◌, ◌++◌, ◌∷◌, [], IfOk, IfSome, OnOk, length};
+ghost use Rattle.std.specs.Prelude.{◌≡◌, ◌≢◌, ◌<◌, ◌++◌, ◌∷◌, [], IfOk, IfSome, OnOk, length, option_map};
 ghost use Rattle.ct_algebra.specs.Polynomial.{polys};
 ghost use Rattle.ct_checked.specs.Checked.{AnswersBy};
 ghost use Rattle.ct_linsolve.specs.Elimination.{checked_rows, is_used, pivot_row};
-ghost use Rattle.ct_linsolve.specs.Rows.{entry};
-ghost use Rattle.ct_linsolve.specs.Views.{pivots_of, rows_of};
+ghost use Rattle.ct_linsolve.specs.Refuting.{pivot_of};
+ghost use Rattle.ct_linsolve.specs.Rows.{entry, row_at};
+ghost use Rattle.ct_linsolve.specs.Views.{pivot_view, pivots_of, rows_of};
 
 use crate::entries::{copied, other};
 use crate::pivot::Pivot;
@@ -61,6 +62,29 @@ pub(crate) fn find_pivot(column: usize, pivots: &[Pivot], rows: &[Vec<Poly>]) ->
         rest = more;
     }
     None
+}
+
+/// The pivot of a column.
+pub(crate) fn pivot_of(pivots: &[Pivot], column: usize) -> Option<Pivot>
+    ensures { pivot_of column (pivots_of pivots.now) ≡ option_map pivot_view result }
+{
+    let mut rest = pivots;
+    'seeking: while let Some((p, more)) = rest.split_first() {
+        if p.column == column {
+            return Some(*p);
+        }
+        rest = more;
+    }
+    None
+}
+
+pub(crate) fn row_or_none<'a>(rows: &'a [Vec<Poly>], place: usize) -> &'a [Poly]
+    ensures { result.now ≡ row_at (rows_of rows.now) place }
+{
+    match rows.get(place) {
+        Some(row) => row.as_slice(),
+        None => &[],
+    }
 }
 
 fn is_used(row: usize, pivots: &[Pivot]) -> bool

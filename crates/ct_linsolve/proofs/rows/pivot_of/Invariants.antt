@@ -1,7 +1,7 @@
 use Rattle.ct_linsolve.proofs.Base.{◌≡◌, length}
 use Rattle.ct_linsolve.specs.Refuting.{pivot_of}
 use Rattle.ct_linsolve.specs.Views.{pivots_of}
-use Rattle.ct_linsolve.proofs.refutation.refuting_row.Given as goal
+use Rattle.ct_linsolve.proofs.rows.pivot_of.Given as goal
 
 abbrev pub invariant-seeking : goal.invariant-seeking
 invariant-seeking l = pivot_of l.column (pivots_of l.pivots) ≡ pivot_of l.column (pivots_of l.rest)
