@@ -19,6 +19,8 @@ mod pivot;
 mod refutation;
 mod rows;
 mod slimming;
+#[cfg(test)]
+mod tests;
 mod working;
 
 pub use ct_poly::Matrix;
