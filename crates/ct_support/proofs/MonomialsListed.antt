@@ -3,11 +3,15 @@
 use Rattle.ct_support.proofs.Base.{◌≡◌, ℕ, zero, suc, ◌+◌, ◌-◌, ◌*◌, ◌<◌, ◌≤◌, Bool, true, false, cond, eqb, List, [], ◌∷◌, ◌++◌, length, map}
 use Rattle.ct_support.proofs.Base.{◌⊎◌, inl, inr, refl, sym, ◌∙◌, ap, ap₂, subst, arith, Contains, Ordering, Less, Equal, Greater, filter}
 use Rattle.ct_support.proofs.Base.{length-append, length-map, Contains-append_cases, Contains-append_left, Contains-append_right}
-use Rattle.ct_support.proofs.Base.{Mono, mono, unit, exp, total, ◌·◌, exp-mono, exp-unit, exp-·, same_mono, total-·, Name, place, place_small, same_place}
-use Rattle.ct_support.proofs.Base.{symbol, exp-symbol, IsIn, IsOnce, rising, monomials_in, listing_unique, rises_rising, contains_rising, rising_contains}
+use Rattle.ct_support.proofs.Base.{Mono, mono, unit, exp, total, ◌·◌, exp-mono, exp-unit, exp-·, same_mono, total-·, Name, place, place_small}
+use Rattle.ct_support.proofs.Base.{same_place}
+use Rattle.ct_support.proofs.Base.{symbol, exp-symbol, IsIn, IsOnce, rising, monomials_in, listing_unique, rises_rising, contains_rising}
+use Rattle.ct_support.proofs.Base.{rising_contains}
 use Rattle.ct_support.proofs.Base.{total_within, total_unit, total-symbol, monomials_in-listing, inside, inside_whole, eqb-true, eq-eqb, by_order}
-use Rattle.ct_support.proofs.Base.{contains_first, contains_later, contains_cases, contains_none, contains_map, contains_map_cases, contains_filter_cases}
-use Rattle.ct_support.proofs.Base.{once_append, once_map, insert_rising, mono_cmp, mono_tied, free_names, is_free_name, all_names, is_chosen, chosen_of}
+use Rattle.ct_support.proofs.Base.{contains_first, contains_later, contains_cases, contains_none, contains_map, contains_map_cases}
+use Rattle.ct_support.proofs.Base.{contains_filter_cases}
+use Rattle.ct_support.proofs.Base.{once_append, once_map, insert_rising, mono_cmp, mono_tied, free_names, is_free_name, all_names, is_chosen}
+use Rattle.ct_support.proofs.Base.{chosen_of}
 use Rattle.ct_support.proofs.Base.{x0, x1, x2, x3, x4, x5}
 use Rattle.ct_support.proofs.Base.{OfMonomial, OfSummand, columns_of_name, certificate_columns}
 use Rattle.ct_support.specs.ColumnCount.{with_name, monomial_count}
