@@ -117,12 +117,15 @@ fn digits_of(tops: &Monomial, number: usize) -> Option<Monomial> {
     let mut mono = Monomial::one();
     for i in 0..NAMES {
         let name = NAMES - 1 - i;
-        let e = (left % width(tops, name)) as u16;
-        if mono.total() + e > LARGEST_DEGREE {
-            return None;
+        let width = width(tops, name);
+        if width > 1 {
+            let e = (left % width) as u16;
+            if mono.total() + e > LARGEST_DEGREE {
+                return None;
+            }
+            mono = mono.with_exp(name, e);
+            left /= width;
         }
-        mono = mono.with_exp(name, e);
-        left /= width(tops, name);
     }
     Some(mono)
 }
