@@ -22,3 +22,4 @@ pub use laws::{
 };
 pub use reduced::Reduced;
 pub use reduction::left_reduce;
+pub use search::{Reducer, first_reducer};

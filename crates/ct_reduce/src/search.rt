@@ -9,7 +9,7 @@ use ct_ore::{Op, OpTerm};
 
 /// A generator, its place in the list, and the symbols that take its leading monomial to another.
 #[derive(Drop)]
-pub(crate) struct Reducer<'a> {
+pub struct Reducer<'a> {
     pub place: usize,
     pub generator: &'a Op,
     pub symbols: Monomial,
@@ -42,8 +42,8 @@ pub(crate) fn greatest_reducible<'a, 'r>(
     None
 }
 
-// The first generator whose leading monomial divides m.
-fn first_reducer<'a>(m: &Monomial, generators: &'a [Op]) -> Option<Reducer<'a>>
+/// The first generator whose leading monomial divides m.
+pub fn first_reducer<'a>(m: &Monomial, generators: &'a [Op]) -> Option<Reducer<'a>>
     ensures { found_reducer_of result ≡ first_reducer m.now generators.now }
 {
     let mut place = 0;
