@@ -1,11 +1,11 @@
 pub mod Base
-mod SymbolValues
-mod Shares
-mod Ranges
-mod Rows
-mod Steps
-mod ActedVectors
-mod FreeColumns
+pub mod SymbolValues
+pub mod Shares
+pub mod Ranges
+pub mod Rows
+pub mod Steps
+pub mod ActedVectors
+pub mod FreeColumns
 pub mod PlainLists
 pub mod DeclaredNames
 pub mod ListedMonomials
@@ -15,6 +15,6 @@ pub mod CertificateColumns
 pub mod OneOver
 pub mod CertificateVectors
 pub mod TestedColumns
-mod Additions
-mod Images
-mod ColumnSymbols
+pub mod Additions
+pub mod Images
+pub mod ColumnSymbols

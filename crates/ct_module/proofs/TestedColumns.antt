@@ -1,5 +1,6 @@
--- For a tested module the vectors of columns are those of ct_telescoping: main lemma `column_vectors`, which the law cites. The symbols
--- commute, so their order plays no part; and what a staircase element makes of the start is its unit vector.
+-- For a tested module the vectors of columns are those of ct_telescoping: main lemma `column_vectors`, which the law cites. The symbols of
+-- a monomial act names in order (`made_by_symbols`), and they commute, so their order plays no part; and what a staircase element makes
+-- of the start is its unit vector.
 use Rattle.ct_module.proofs.Base.{◌≡◌, ◌≢◌, refl, sym, ◌∙◌, ap, ap₂, ℕ, zero, suc, pos, List, [], ◌∷◌, ◌++◌}
 use Rattle.std.specs.Prelude.{replicate}
 use Rattle.ct_algebra.specs.Actions.{Action, Shift, Derive, Still, by_action, polynomials}
@@ -45,15 +46,21 @@ module _ (a : Name → Action) (d : ℕ) (M : Rows) where
       inner zero x = refl
       inner (suc n) x = ap (acted a d M i) (inner n x)
 
+  pub made_by_symbols :
+      (γ : Mono) (x : Vector K d) →
+      made_by a d M (symbols_of γ) x ≡
+      times_over (exp γ 5) (acted a d M x5) (times_over (exp γ 4) (acted a d M x4) (times_over (exp γ 3) (acted a d M x3)
+      (times_over (exp γ 2) (acted a d M x2) (times_over (exp γ 1) (acted a d M x1) (times_over (exp γ 0) (acted a d M x0) x)))))
+  made_by_symbols γ x =
+      made_often (exp γ 0) x0 _ x ∙ made_often (exp γ 1) x1 _ _ ∙ made_often (exp γ 2) x2 _ _ ∙ made_often (exp γ 3) x3 _ _
+      ∙ made_often (exp γ 4) x4 _ _ ∙ made_often (exp γ 5) x5 [] _
+
 module _ (a : Name → Action) (d : ℕ) (M : Rows) (commutes : RowsCommute a d M) where
   abbrev W : Module polys (polynomials a) (Vector K d)
   W = staircase_module a d M commutes
 
   made-power : (γ : Mono) (x : Vector K d) → made_by a d M (symbols_of γ) x ≡ power W.D γ x
-  made-power γ x =
-      made_often a d M (exp γ 0) x0 _ x ∙ made_often a d M (exp γ 1) x1 _ _ ∙ made_often a d M (exp γ 2) x2 _ _
-      ∙ made_often a d M (exp γ 3) x3 _ _ ∙ made_often a d M (exp γ 4) x4 _ _ ∙ made_often a d M (exp γ 5) x5 [] _
-      ∙ backward-power W.D W.D_D γ x
+  made-power γ x = made_by_symbols a d M γ x ∙ backward-power W.D W.D_D γ x
 
   opposite : (j : Name) (x : Vector K d) → negative_difference a d M j x ≡ W.group.neg (difference a W j x)
   opposite j x = by (a j)

@@ -6,7 +6,7 @@ use ct_frac::Frac;
 use ct_mono::NoMemory;
 use std::alloc::Global;
 
-pub(crate) fn copy_of(alloc: Global, f: &Frac) -> Result<Frac, NoMemory>
+pub fn copy_of(alloc: Global, f: &Frac) -> Result<Frac, NoMemory>
     ensures { IfOk result (λ g. g ≡ f.now) }
 {
     f.in_written_form();
@@ -22,7 +22,7 @@ pub(crate) fn append(v: &mut Vec<Frac>, f: Frac) -> Result<(), NoMemory>
     Ok(())
 }
 
-pub(crate) fn copied(alloc: Global, v: &[Frac]) -> Result<Vec<Frac>, NoMemory>
+pub fn copied(alloc: Global, v: &[Frac]) -> Result<Vec<Frac>, NoMemory>
     ensures { IfOk result (λ w. w.items ≡ v.now) }
 {
     let mut copy = Vec::with_capacity(alloc, v.len())?;

@@ -72,8 +72,8 @@ impl Module {
     }
 }
 
-// A vector of zeros.
-fn zeros(alloc: Global, dimension: usize) -> Result<Vec<Frac>, NoMemory>
+/// A vector of zeros.
+pub fn zeros(alloc: Global, dimension: usize) -> Result<Vec<Frac>, NoMemory>
     ensures { IfOk result (λ v. v.items ≡ replicate dimension written_zero) }
 {
     let mut v = Vec::with_capacity(alloc, dimension)?;
@@ -86,7 +86,7 @@ fn zeros(alloc: Global, dimension: usize) -> Result<Vec<Frac>, NoMemory>
 }
 
 /// A sum, with a fraction times a vector added entry by entry.
-pub(crate) fn added(alloc: Global, sum: &[Frac], q: &Frac, v: &[Frac]) -> Result<Vec<Frac>, Fault>
+pub fn added(alloc: Global, sum: &[Frac], q: &Frac, v: &[Frac]) -> Result<Vec<Frac>, Fault>
     requires { length sum.now ≡ length v.now }
     ensures steps { AnswersBy (λ w. w.items) (checked_with q.now sum.now v.now) result }
     ensures size { IfOk result (λ w. length w.items ≡ length v.now) }

@@ -30,7 +30,9 @@ mod source;
 mod system;
 
 pub use column::Column;
+pub use copies::{copied, copy_of};
 pub use ct_frac::{Den, Factor, Fault, Frac, Kind, NoMemory, Poly};
+pub use image::{added, zeros};
 pub use key::Key;
 pub use laws::{columns_go_by_symbols, tested_columns_are_vectors};
 pub use module::Module;
