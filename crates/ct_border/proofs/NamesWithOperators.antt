@@ -1,6 +1,6 @@
 -- The numbers of names with operators: main lemmas `numbers_rise`, `numbers_small`, and `uses_operators`, `operators_use`: the monomials
 -- in these names are those that have operators.
-use Rattle.ct_border.proofs.Base.{◌≡◌, ℕ, ◌+◌, ◌<◌, Bool, true, false, refl, sym, ◌∙◌, ap, subst, arith, All, All-filter, AllPairs}
+use Rattle.ct_border.proofs.Base.{◌≡◌, ◌≢◌, ℕ, ◌+◌, ◌<◌, Bool, true, false, refl, sym, ◌∙◌, ap, subst, arith, All, All-filter, AllPairs}
 use Rattle.ct_border.proofs.Base.{AllPairs-filter, Contains}
 use Rattle.ct_border.proofs.Base.{range_with_len, get_or-range_with_len, contains_filter, contains_filter_cases, Action, Shift}
 use Rattle.ct_border.proofs.Base.{Derive, Still, Mono, exp, Name, place, place_small, name_with, place-name_with, same_place, UsesOnly, HasOperators}
@@ -14,6 +14,11 @@ not_acting : (t : Action) → acts t ≡ false → t ≡ Still
 not_acting Shift other = cc
 not_acting Derive other = cc
 not_acting Still other = refl
+
+pub acting : (t : Action) → t ≢ Still → acts t ≡ true
+acting Shift other = refl
+acting Derive other = refl
+acting Still other = absurd (other refl)
 
 module _ (a : Name → Action) where
   -- one number more

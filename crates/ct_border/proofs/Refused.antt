@@ -17,8 +17,8 @@ unfoldable use Rattle.ct_border.specs.Staircase.{checked_staircase}
 use Rattle.ct_border.specs.StaircaseMeans.{IsProper, IsFirstOther, IsRefused, RefusalsAreRight}
 use Rattle.ct_border.proofs.LeadingMonomials.{AreLeading, leading_of-leads, leading_monomials-lead, all_proper, one_lead}
 use Rattle.ct_border.proofs.Powers.{pure_power}
-use Rattle.ct_border.proofs.NamesWithOperators.{name_with-place, numbers_rise, number_of_acting}
-use Rattle.ct_border.proofs.StaircaseListed.{rises, sound, acting, finite}
+use Rattle.ct_border.proofs.NamesWithOperators.{name_with-place, acting, numbers_rise, number_of_acting}
+use Rattle.ct_border.proofs.StaircaseListed.{rises, sound, finite}
 use Rattle.ct_checked.specs.Traversal.{checked_each_from}
 
 -- ---- a generator that is not proper
@@ -235,7 +235,7 @@ module _ (a : Name → Action) (gs : List Operator) where
           λ j less other.
               pure_power gs ds j lead
               (ap (has_power ds) (sym (name_with-place j))
-              ∙ first.before (place j) (number_of_acting a j (acting a gs ds lead j other)) less),
+              ∙ first.before (place j) (number_of_acting a j (acting (a j) other)) less),
         )
 
     size_refused : (r : Refusal) → powers_test ds (operator_numbers a) ≡ Ok tt → few (remaining (operator_numbers a) ds) ≡ Err r → IsRefused a gs r

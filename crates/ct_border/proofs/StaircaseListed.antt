@@ -2,7 +2,7 @@
 -- A monomial has divisors of each total up to its own, and with it they all remain. So where one of a total over 16 remains, the list
 -- has one of each total up to 16, more than it may.
 use Rattle.ct_border.proofs.Base.{◌≡◌, ◌≢◌, ℕ, zero, suc, ◌+◌, ◌<◌, ◌≤◌, true, List, [], ◌∷◌, length, length-append, Ok, Err, Result}
-use Rattle.ct_border.proofs.Base.{◌>>=◌, both_fit, IfOk, ◌⊎◌, inl, inr, refl, sym, ◌∙◌, ap, subst, arith, Less, AllPairs, AllPairs-filter, Contains}
+use Rattle.ct_border.proofs.Base.{◌>>=◌, both_fit, IfOk, ◌⊎◌, inl, inr, sym, ◌∙◌, ap, subst, arith, Less, AllPairs, AllPairs-filter, Contains}
 use Rattle.ct_border.proofs.Base.{Contains-append_cases, filter, filter-append, contains_filter, contains_filter_cases, contains_none, Mono, unit}
 use Rattle.ct_border.proofs.Base.{total, ◌·◌}
 use Rattle.ct_border.proofs.Base.{·_assoc, ·_comm, ·-unit, total-·, total_unit, total-symbol, mono_cmp, Name, place, symbol, by_symbols, Action}
@@ -12,12 +12,12 @@ use Rattle.ct_border.proofs.Base.{up_to-listing, below}
 use Rattle.ct_border.proofs.Base.{of_total, pairs_head, pairs_tail, irreducible_divisor, operators_divisor}
 use Rattle.ct_border.proofs.Base.{AnswersAs}
 use Rattle.ct_border.specs.declared.fault.StairFault.{StairFault}
-use Rattle.ct_border.specs.Staircase.{refusal_of, acts, operator_numbers, is_left, few, remaining, powers_test, leading_monomials, has_power}
+use Rattle.ct_border.specs.Staircase.{refusal_of, operator_numbers, is_left, few, remaining, powers_test, leading_monomials, has_power}
 unfoldable use Rattle.ct_border.specs.Staircase.{checked_staircase}
 use Rattle.ct_border.specs.StaircaseMeans.{HasStaircase, Remains}
 use Rattle.ct_border.proofs.LeadingMonomials.{AreLeading, leading_monomials-lead, all_proper, irreducible_left, left_irreducible}
 use Rattle.ct_border.proofs.Powers.{pure_power, powers_test-powers}
-use Rattle.ct_border.proofs.NamesWithOperators.{name_with-place, numbers_small, numbers_rise, number_of_acting, uses_operators, operators_use}
+use Rattle.ct_border.proofs.NamesWithOperators.{name_with-place, acting, numbers_small, numbers_rise, number_of_acting, uses_operators, operators_use}
 use Rattle.ct_border.proofs.FewMonomials.{few_ok}
 
 rises_of_pairs : (ms : List Mono) → AllPairs (λ m n. mono_cmp m n ≡ Less) ms → Rises ms
@@ -138,18 +138,10 @@ module _ (a : Name → Action) (gs : List Operator) (ds : List Mono) (lead : Are
         ((listing_to 16).complete m (total_small few m remains) (operators_use a m remains.0)) (left_irreducible gs ds m lead remains.1);
   }
 
-  pub acting : (i : Name) → a i ≢ Still → acts (a i) ≡ true
-  acting i other = by (a i) other
-    where
-      by : (t : Action) → t ≢ Still → acts t ≡ true
-      by Action.Shift other = refl
-      by Action.Derive other = refl
-      by Still other = absurd (other refl)
-
   pub finite : powers_test ds numbers ≡ Ok tt → (i : Name) → a i ≢ Still → HasPurePower gs i
   finite passes i other =
       pure_power gs ds i lead
-      (ap (has_power ds) (sym (name_with-place i)) ∙ powers_test-powers ds numbers passes (place i) (number_of_acting a i (acting i other)))
+      (ap (has_power ds) (sym (name_with-place i)) ∙ powers_test-powers ds numbers passes (place i) (number_of_acting a i (acting (a i) other)))
 
 pub staircase_means :
     (a : Name → Action) (gs : List Operator) (ms : List Mono) → checked_staircase a gs ≡ Ok ms → HasStaircase a gs ms

@@ -23,7 +23,7 @@ pub(crate) fn operator_numbers(alloc: Global, algebra: &Algebra) -> Result<Vec<u
 }
 
 // A name past the list has none.
-fn has_operator(algebra: &Algebra, i: u8) -> bool
+pub(crate) fn has_operator(algebra: &Algebra, i: u8) -> bool
     requires { i < 6 }
     ensures { result ≡ acts (actions_of algebra.now (name_with i)) }
 {

@@ -95,9 +95,9 @@ fn is_left(leading: &[Monomial], m: &Monomial) -> bool
     true
 }
 
-pub(crate) fn append(list: &mut Vec<Monomial>, m: Monomial) -> Result<(), NoMemory>
-    ensures { OnOk result (list.new.items ≡ list.old.items ++ m ∷ []) }
+pub(crate) fn append<T: Drop>(list: &mut Vec<T>, x: T) -> Result<(), NoMemory>
+    ensures { OnOk result (list.new.items ≡ list.old.items ++ x ∷ []) }
 {
-    list.push(m)?;
+    list.push(x)?;
     Ok(())
 }
