@@ -102,15 +102,25 @@ pub fn print_monomial(alloc: Global, algebra: &Algebra, m: &Monomial) -> Result<
     ensures { IfOk result (λ text. text.items ≡ spec.monomial_text algebra.now m.now) }
 {
     let mut out = Vec::new(alloc);
+    push_monomial(alloc, &mut out, algebra, m)?;
+    Ok(out)
+}
+
+pub(crate) fn push_monomial(
+    alloc: Global,
+    out: &mut Vec<u8>,
+    algebra: &Algebra,
+    m: &Monomial,
+) -> Result<(), NoMemory>
+    ensures { OnOk result (out.new.items ≡ out.old.items ++ spec.monomial_text algebra.now m.now) }
+{
     let mut powers = Vec::new(alloc);
     append_powers(&mut powers, true, m)?;
     let Some((first, others)) = powers.as_slice().split_first() else {
-        push(&mut out, b"1")?;
-        return Ok(out);
+        return push(out, b"1");
     };
-    push_power(&mut out, algebra, *first)?;
-    push_later_powers(&mut out, algebra, others)?;
-    Ok(out)
+    push_power(out, algebra, *first)?;
+    push_later_powers(out, algebra, others)
 }
 
 /// The absolute value of a number and powers; 1 is left out before a power.

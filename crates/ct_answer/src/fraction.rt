@@ -20,7 +20,7 @@ pub fn print_frac(alloc: Global, algebra: &Algebra, value: &Frac) -> Result<Vec<
 }
 
 #[tactic(auto, unfolding(crate::specs::Text::fraction_text))]
-fn push_frac(
+pub(crate) fn push_frac(
     alloc: Global,
     out: &mut Vec<u8>,
     algebra: &Algebra,

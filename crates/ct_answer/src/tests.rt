@@ -1,7 +1,10 @@
 // Texts by hand. The name n has a shift, and x a derivation.
 ghost use Rattle.std.specs.Prelude.{◌<◌};
 
-use crate::{print_frac, print_monomial, print_op, print_poly, print_reductions};
+use crate::{
+    print_frac, print_monomial, print_op, print_poly, print_reductions, print_tested, push_refusal,
+};
+use ct_border::BuildFault;
 use ct_frac::{Fault, Frac, Kind};
 use ct_mono::{Monomial, NoMemory};
 use ct_ore::{Action, Algebra, NameInfo, Op, Role};
@@ -154,5 +157,27 @@ fn reductions_are_written_by_lines(rt: HostRuntime) -> Result<(), Fail> {
     let lines =
         b"mgfun reduce 1\ntarget 1\nscale n\ncofactor 1: S[n]\ncofactor 2: 0\nrest 3\nend\n";
     assert_eq!(rt; text.as_slice(), lines.as_slice());
+    Ok(())
+}
+
+#[test]
+fn bases_and_refusals_are_written_by_their_elements(rt: HostRuntime) -> Result<(), Fail> {
+    let alloc = rt.alloc();
+    let algebra = shift_and_derivation(alloc)?;
+    let elements = [Monomial::one(), Monomial::name(0)];
+    let text = print_tested(alloc, &algebra, &elements)?;
+    let lines = b"mgfun test 1\ndimension 2\nbasis 1\nbasis S[n]\nend\n";
+    assert_eq!(rt; text.as_slice(), lines.as_slice());
+    let refused = BuildFault::NotClosed {
+        first: 0,
+        second: 1,
+        element: 1,
+        place: 0,
+        one: Frac::zero(alloc)?,
+        other: Frac::of_poly(alloc, Poly::name(alloc, 0)?)?,
+    };
+    let mut text = Vec::new(alloc);
+    push_refusal(alloc, &mut text, &algebra, &elements, &refused)?;
+    assert_eq!(rt; text.as_slice(), b"NotClosed n x S[n] 1: 0; n".as_slice());
     Ok(())
 }
