@@ -2,7 +2,8 @@
 -- Main lemmas `certificate_fits` and `setup_length`, cited by `answer_form` and by what a yes means. By the steps that fit.
 use Rattle.ct_run.proofs.Base.{◌≡◌, refl, ℕ, List, [], ◌∷◌, map, length, Ok, sym, ◌∙◌, ap, arith, Name, Operator, Polynomial, Certificate, both_fit}
 use Rattle.ct_run.proofs.Base.{each_length, Naming, actions_of, summed_of, Report, Reading, value_of, checked_polynomial, IsReportOn}
-use Rattle.ct_run.specs.Setup.{listed, checked_values, checked_setup}
+use Rattle.ct_setup.specs.Setup.{Prepared, listed, checked_values}
+use Rattle.ct_setup.specs.SetupMeans.{IsPrepared}
 use Rattle.ct_run.specs.Checking.{checked_polynomials, checked_quotient, checked_quotients, checked_certificate, summands_of}
 
 summands_of-names :
@@ -50,11 +51,6 @@ certificate_fits names generators r c on fits =
     }
 
 -- a generator for each `gen` line
-pub setup_length : (p : Reading) (generators : List Operator) → checked_setup p ≡ Ok generators → length generators ≡ length (listed p.generators)
-unfolding checked_setup
-setup_length p generators fits =
-    let a = actions_of p.variables in
-    let listed_values = both_fit (checked_values a (listed p.generators)) _ generators fits in
-    let targets = both_fit (checked_values a p.targets) _ generators listed_values.rest in
-    let same : listed_values.value ≡ generators = cc in
-    omega (arith, each_length (λ _ x. value_of a x) 1 (listed p.generators) listed_values.value listed_values.first, ap length same)
+pub setup_length : (p : Reading) (s : Prepared) → IsPrepared p s → length s.generators ≡ length (listed p.generators)
+setup_length p s means =
+    each_length (λ _ x. value_of (actions_of p.variables) x) 1 (listed p.generators) s.generators means.generators

@@ -2,6 +2,6 @@ pub mod Base
 mod Reported
 mod Parts
 mod CertificateFits
-mod NoLets
+mod Refused
 mod ReducedTexts
 mod Meaning

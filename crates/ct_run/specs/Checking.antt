@@ -1,15 +1,16 @@
 -- The output of `check` for a problem and a report in the first form. The order of the steps is this project's own.
 --     checked_certificate names r     what the expressions of a report stand for, in text order
---     is_first p                      a problem of the first form: no `let`, `use` or `den` line, and one support
+--     is_first p                      a problem of the first form: no `den` line, and one support
 --     checked_form p r                the outcome and the line
 --     checked_text bytes p end        the same for a problem, and the text behind it
--- An overflow in the problem's expressions comes before one in the report's, and this before the first test.
+-- The problem is prepared first, so that its generators are tested; then the report's expressions are evaluated, before the first test.
 -- Above it:
---     Statement bytes                 the problem and the report that the bytes stand for by the grammar, and the values of both
+--     Statement bytes                 the problem and the report that the bytes stand for by the grammar, and the values of both; the
+--                                     problem's generators are tested
 --     IsShown bytes                   what a yes means
 --     IsRefuted bytes text            what a no means
 --     CheckMeans bytes outcome text   what an outcome with this text means
-use Rattle.std.specs.Prelude.{◌≡◌, ◌==◌, Bool, false, not, ◌&&◌, if◌then◌else◌, is_none, Ok, Err, Option, Some, None, List, [], ◌∷◌, length, ℕ}
+use Rattle.std.specs.Prelude.{◌≡◌, ◌==◌, Bool, false, ◌&&◌, if◌then◌else◌, is_none, Ok, Err, Option, Some, None, List, [], ◌∷◌, length, ℕ}
 use Rattle.std.specs.List.{list_all}
 use Rattle.ct_algebra.specs.Names.{Name}
 use Rattle.ct_algebra.specs.Polynomial.{Polynomial}
@@ -25,7 +26,7 @@ use Rattle.ct_problem.specs.declared.report.Quotient.{Quotient}
 use Rattle.ct_problem.specs.declared.report.Report.{Report}
 use Rattle.ct_problem.specs.GrammarProblem.{StandsFor}
 use Rattle.ct_problem.specs.GrammarReport.{ReportStandsFor}
-use Rattle.ct_problem.specs.ReadProblem.{Reading, is_empty, is_used}
+use Rattle.ct_problem.specs.ReadProblem.{Reading}
 use Rattle.ct_problem.specs.ReadReport.{report_of}
 use Rattle.ct_expr.specs.Value.{value_of, checked_polynomial}
 use Rattle.ct_cert.specs.declared.place.Place.{Place}
@@ -35,9 +36,9 @@ use Rattle.ct_run.specs.declared.status.Outcome as outcomes
 use Rattle.ct_run.specs.declared.status.Outcome.TheVariants.{Done, NoneFound, BadInput, Overflow, Usage, CheckNo}
 use Rattle.ct_run.specs.Output.{Output}
 use Rattle.ct_io.specs.declared.command.Command.TheVariants.{Check}
-use Rattle.ct_run.specs.Lines.{not_yet, overflow_in_setup, overflow_in_report, no_line, verdict_line}
-pub use Rattle.ct_run.specs.Setup.{listed}
-use Rattle.ct_run.specs.Setup.{checked_values, checked_setup}
+use Rattle.ct_setup.specs.Setup.{Prepared, SetUp, listed, checked_values, checked_setup}
+use Rattle.ct_run.specs.Lines.{not_yet, setup_line, overflow_in_report, no_line, verdict_line}
+use Rattle.ct_run.specs.Ready.{IsReady}
 
 -- ---- the values of a report's expressions
 
@@ -98,12 +99,12 @@ module _ (p : Reading) where
   by_certificate r generators (Ok c) = tested r generators c
   by_certificate r generators (Err kind) = overflow_in_report kind
 
-  abbrev pub by_generators : Report → Checked (List Operator) → Output
-  by_generators r (Ok generators) = by_certificate r generators (checked_certificate p.variables r)
-  by_generators r (Err kind) = overflow_in_setup kind
+  abbrev pub by_setup : Report → SetUp Prepared → Output
+  by_setup r (Ok s) = by_certificate r s.generators (checked_certificate p.variables r)
+  by_setup r (Err e) = setup_line p e
 
   unfoldable pub checked_form : Report → Output
-  checked_form r = by_generators r (checked_setup p)
+  checked_form r = by_setup r (checked_setup p)
 
   abbrev pub by_report : Option Report → Output
   by_report (Some r) = checked_form r
@@ -114,37 +115,37 @@ is_single None = false
 is_single (Some r) = r.low == r.high
 
 unfoldable pub is_first : Reading → Bool
-is_first p =
-    is_empty p.definitions && (not (is_used p.generators) && (list_all is_none p.dens && (is_single p.orders && is_single p.degrees)))
+is_first p = list_all is_none p.dens && (is_single p.orders && is_single p.degrees)
 
 unfoldable pub checked_text : List ℕ → Reading → ℕ → Output
 checked_text bytes p end = if is_first p then by_report p (report_of p.variables (length (listed p.generators)) bytes end) else not_yet
 
 -- ---- what an answer means
 
--- the bytes are a problem and a report on it, by the grammar, and their expressions have these values
+-- the bytes are a problem and a report on it, by the grammar; the problem is ready, and the report's expressions have this value
 pub record Statement (bytes : List ℕ) : Type 0 where
   pub problem : Reading
   pub end : ℕ
   pub says_problem : StandsFor Check bytes problem end
   pub report : Report
   pub says_report : ReportStandsFor problem.variables (length (listed problem.generators)) bytes end report
-  pub generators : List Operator
-  pub valued : checked_setup problem ≡ Ok generators
+  pub ready : IsReady problem
   pub certificate : Certificate
   pub stated : checked_certificate problem.variables report ≡ Ok certificate
 
--- the report's certificate certifies its telescoper over the problem's generators
+-- the report's certificate certifies its telescoper over the problem's generators, which are tested
 pub record IsShown (bytes : List ℕ) : Type 0 where
   pub statement : Statement bytes
   pub certified :
-      Certifies (actions_of statement.problem.variables) (summed_of statement.problem.variables) statement.generators statement.certificate
+      Certifies (actions_of statement.problem.variables) (summed_of statement.problem.variables) statement.ready.prepared.generators
+      statement.certificate
 
 module _ {bytes : List ℕ} (s : Statement bytes) where
   -- what the test of this place asks is true
   abbrev pub HoldsAt : Place → Type 0
   HoldsAt =
-      Holds (actions_of s.problem.variables) (summed_of s.problem.variables) s.generators (due_of s.problem) (found_of s.report) s.certificate
+      Holds (actions_of s.problem.variables) (summed_of s.problem.variables) s.ready.prepared.generators (due_of s.problem) (found_of s.report)
+      s.certificate
 
 -- what the test of some place asks is false, and the text is the line of that place
 pub record IsRefuted (bytes : List ℕ) (text : List ℕ) : Type 0 where

@@ -2,10 +2,11 @@ pub mod Status
 pub mod Words
 pub mod Output
 pub mod Lines
-pub mod Setup
 pub mod Refusals
+pub mod Ready
 pub mod Checking
 pub mod Reducing
+pub mod Testing
 pub mod Fractions
 pub mod Out
 pub mod Run

@@ -21,9 +21,9 @@ use Rattle.ct_problem.specs.GrammarProblem.{StandsFor}
 use Rattle.ct_problem.specs.ReadProblem.{Reading}
 use Rattle.ct_run.specs.declared.status.Outcome as outcomes
 use Rattle.ct_run.specs.declared.status.Outcome.TheVariants as outcome
-use Rattle.ct_run.specs.Lines.{overflow_in_setup, overflow_in_reduction, zero_generator}
+use Rattle.ct_setup.specs.Setup.{Plain, SetUp, checked_plain_setup}
+use Rattle.ct_run.specs.Lines.{overflow_in_reduction, setup_line}
 use Rattle.ct_run.specs.Output.{Output}
-use Rattle.ct_run.specs.Setup.{Plain, Refusal, ZeroGenerator, Overflow, plain_setup}
 
 -- ---- the reductions
 
@@ -44,13 +44,12 @@ abbrev pub by_reductions : List Naming → Result (List Reduction) TargetOverflo
 by_reductions names (Ok rs) = record { outcome = outcome.Done; text = reduced_text names rs }
 by_reductions names (Err e) = overflow_in_reduction e.0 e.1
 
-abbrev pub by_setup : Reading → Result Plain Refusal → Output
-by_setup p (Ok s) = by_reductions p.variables (checked_reductions (actions_of p.variables) s.generators s.targets)
-by_setup p (Err (ZeroGenerator place)) = zero_generator place
-by_setup p (Err (Overflow kind)) = overflow_in_setup kind
+abbrev pub by_values : Reading → SetUp Plain → Output
+by_values p (Ok s) = by_reductions p.variables (checked_reductions (actions_of p.variables) s.generators s.targets)
+by_values p (Err e) = setup_line p e
 
 unfoldable pub reduced : Reading → Output
-reduced p = by_setup p (plain_setup p)
+reduced p = by_values p (checked_plain_setup p)
 
 -- ---- what it means
 
@@ -67,7 +66,7 @@ pub record AreReduced (bytes : List ℕ) (text : List ℕ) : Type 0 where
   pub end : ℕ
   pub says_problem : StandsFor Reduce bytes problem end
   pub plain : Plain
-  pub valued : plain_setup problem ≡ Ok plain
+  pub valued : checked_plain_setup problem ≡ Ok plain
   pub reductions : List Reduction
   pub each : EachReduces (actions_of problem.variables) plain.generators plain.targets reductions
   pub shown : text ≡ reduced_text problem.variables reductions

@@ -1,54 +1,55 @@
 // The output of `check`.
-ghost use Rattle.std.specs.Prelude.{◌≡◌, ◌≤◌, length, is_none, IfOk};
+ghost use Rattle.std.specs.Prelude.{◌≡◌, ◌≤◌, false, length, is_none, IfOk};
 ghost use Rattle.std.specs.List.{list_all};
 ghost use Rattle.ct_cert.specs.Certificates.{IsAnswerFor};
 ghost use Rattle.ct_ore.specs.Answers.{certificate_of};
 ghost use Rattle.ct_problem.specs.ReadProblem.{reading_of};
 ghost use Rattle.ct_problem.specs.WellFormed.{IsReportOn};
+ghost use Rattle.ct_setup.specs.Setup.{has_lists, listed};
 ghost use Rattle.ct_run.specs.Checking as spec;
 ghost use Rattle.ct_run.specs.Output.{output_of};
+ghost use Rattle.ct_run.specs.Ready.{IsReadyWhere};
 
-use crate::lines::{no, not_yet, overflow_in_report, overflow_in_setup, overflow_in_test, yes};
+use crate::lines::{no, not_yet, overflow_in_report, overflow_in_test, yes};
 use crate::output::Output;
-use crate::setup::{checked_setup, has_lets, is_used, listed};
+use crate::refusals::refused_setup;
 use crate::values::certificate;
 use ct_cert::{Stop, Support, check_found};
 use ct_io::NoMemory;
 use ct_mono::Fault;
 use ct_ore::{Answer, Op};
-use ct_problem::{Expr, Problem, Range, Report, read_found_report};
+use ct_problem::{Expr, Gens, Problem, Range, Report, read_found_report};
+use ct_setup::prepare;
 use std::alloc::Global;
 
-/// The output for a problem, and the text behind it.
+/// The output for a problem without `let` and `use` lines, and the text behind it.
 #[tactic(auto, unfolding(crate::specs::Checking::checked_text))]
 pub(crate) fn answer_check(
     alloc: Global,
     bytes: &[u8],
     problem: &Problem,
 ) -> Result<Output, NoMemory>
-    requires { problem.now.end ≤ length bytes.now }
+    requires lists { has_lists (reading_of problem.now) ≡ false }
+    requires within { problem.now.end ≤ length bytes.now }
     ensures value { IfOk result (λ output. output_of output ≡ spec.checked_text bytes.now (reading_of problem.now) problem.now.end) }
+    ensures ready { IfOk result (λ output. IsReadyWhere output.outcome (reading_of problem.now)) }
 {
     if !is_first(problem) {
         return not_yet(alloc);
     }
-    let generators = listed(&problem.gens).len();
+    let generators = listed_count(&problem.gens);
     match read_found_report(alloc, &problem.algebra, generators, bytes, problem.end)? {
         Some(report) => answer_form(alloc, problem, &report),
         None => not_yet(alloc),
     }
 }
 
-/// No `let`, `use` or `den` line, and one support.
+/// No `den` line, and one support.
 #[tactic(auto, unfolding(crate::specs::Checking::is_first))]
 fn is_first(problem: &Problem) -> bool
     ensures { result ≡ spec.is_first (reading_of problem.now) }
 {
-    !has_lets(problem)
-        && !is_used(&problem.gens)
-        && has_no_den(problem.dens.as_slice())
-        && is_single(problem.orders)
-        && is_single(problem.degrees)
+    has_no_den(problem.dens.as_slice()) && is_single(problem.orders) && is_single(problem.degrees)
 }
 
 fn has_no_den(dens: &[Option<Expr>]) -> bool
@@ -64,6 +65,16 @@ fn has_no_den(dens: &[Option<Expr>]) -> bool
     true
 }
 
+// How many `gen` lines there are.
+fn listed_count(gens: &Gens) -> usize
+    ensures { result ≡ length (listed gens.now) }
+{
+    match gens {
+        Gens::Listed(exprs) => exprs.len(),
+        Gens::Named(_) => 0,
+    }
+}
+
 fn is_single(range: Option<Range>) -> bool
     ensures { result ≡ spec.is_single range }
 {
@@ -76,20 +87,21 @@ fn is_single(range: Option<Range>) -> bool
 /// The same for a text in the first form.
 #[tactic(auto, unfolding(crate::specs::Checking::checked_form))]
 fn answer_form(alloc: Global, problem: &Problem, report: &Report) -> Result<Output, NoMemory>
-    requires { IsReportOn problem.now.algebra (length (spec.listed problem.now.gens)) report.now }
+    requires lists { has_lists (reading_of problem.now) ≡ false }
+    requires report { IsReportOn problem.now.algebra (length (listed problem.now.gens)) report.now }
     ensures value { IfOk result (λ output. output_of output ≡ spec.checked_form (reading_of problem.now) report.now) }
+    ensures ready { IfOk result (λ output. IsReadyWhere output.outcome (reading_of problem.now)) }
 {
-    let generators = match checked_setup(alloc, problem) {
-        Ok(generators) => generators,
-        Err(Fault::Overflow(kind)) => return overflow_in_setup(alloc, kind),
-        Err(Fault::NoMemory) => return Err(NoMemory),
+    let ready = match prepare(alloc, problem) {
+        Ok(ready) => ready,
+        Err(fault) => return refused_setup(alloc, problem, fault),
     };
     let answer = match certificate(alloc, &problem.algebra, report) {
         Ok(answer) => answer,
         Err(Fault::Overflow(kind)) => return overflow_in_report(alloc, kind),
         Err(Fault::NoMemory) => return Err(NoMemory),
     };
-    line_of_tests(alloc, problem, report, generators.as_slice(), &answer)
+    line_of_tests(alloc, problem, report, ready.generators.as_slice(), &answer)
 }
 
 /// The line of what the tests of an answer come to.

@@ -11,6 +11,7 @@ use ct_cert::Place;
 use ct_io::NoMemory;
 use ct_mono::Kind;
 use ct_ore::Algebra;
+use ct_setup::SetupPhase;
 use std::alloc::Global;
 
 /// The answer to a text of a form that is not supported yet.
@@ -23,27 +24,30 @@ pub(crate) fn not_yet(alloc: Global) -> Result<Output, NoMemory>
     })
 }
 
-/// The generator with this number is zero.
-#[tactic(auto, unfolding(crate::specs::Lines::zero_generator))]
-pub(crate) fn zero_generator(alloc: Global, place: usize) -> Result<Output, NoMemory>
-    ensures value { IfOk result (λ output. output_of output ≡ spec.zero_generator place) }
+/// Preparing a problem overflows.
+#[tactic(auto, unfolding(crate::specs::Lines::overflow_in_setup))]
+pub(crate) fn overflow_in_setup(
+    alloc: Global,
+    phase: SetupPhase,
+    kind: Kind,
+) -> Result<Output, NoMemory>
+    ensures value { IfOk result (λ output. output_of output ≡ spec.overflow_in_setup phase kind) }
 {
-    let mut text = Vec::from_slice(alloc, b"bad input ZeroGenerator ")?;
-    push_number(&mut text, place)?;
-    push(&mut text, b"\n")?;
-    Ok(Output {
-        outcome: Outcome::BadInput,
-        text,
-    })
+    let mut text = Vec::from_slice(alloc, b"overflow setup ")?;
+    push(&mut text, phase_text(phase))?;
+    push(&mut text, b" ")?;
+    overflow_line(text, kind)
 }
 
-/// An expression of the problem overflows.
-#[tactic(auto, unfolding(crate::specs::Lines::overflow_in_setup))]
-pub(crate) fn overflow_in_setup(alloc: Global, kind: Kind) -> Result<Output, NoMemory>
-    ensures value { IfOk result (λ output. output_of output ≡ spec.overflow_in_setup kind) }
+#[tactic(auto, unfolding(crate::specs::Lines::phase_text))]
+fn phase_text(phase: SetupPhase) -> &'static [u8]
+    ensures { result.now ≡ spec.phase_text phase }
 {
-    let text = Vec::from_slice(alloc, b"overflow setup input ")?;
-    overflow_line(text, kind)
+    match phase {
+        SetupPhase::Input => b"input",
+        SetupPhase::Closure => b"closure",
+        SetupPhase::Test => b"test",
+    }
 }
 
 /// An expression of the report overflows.

@@ -1,4 +1,4 @@
-// The values of a text's expressions, in text order.
+// The values of a report's expressions, in text order.
 ghost use Rattle.std.specs.Prelude.{◌≡◌, ◌<◌, ℕ, ◌++◌, [], ◌∷◌, IfOk, OnOk, map, length};
 ghost use Rattle.std.specs.List.{All};
 ghost use Rattle.ct_algebra.specs.Names.{name_with};
@@ -6,14 +6,14 @@ ghost use Rattle.ct_checked.specs.Checked.{AnswersBy};
 ghost use Rattle.ct_ore.specs.Answers.{certificate_of, summand_of};
 ghost use Rattle.ct_ore.specs.Naming.{actions_of};
 ghost use Rattle.ct_run.specs.Checking as spec;
-ghost use Rattle.ct_run.specs.Setup as setup;
 ghost use Rattle.ct_run.specs.Fractions.{pair_of};
-ghost use Rattle.ct_problem.specs.WellFormed.{Each, IsOperator, IsPolynomial, IsQuotient, IsReportOn};
+ghost use Rattle.ct_problem.specs.WellFormed.{Each, IsPolynomial, IsQuotient, IsReportOn};
 
 use ct_mono::Fault;
 use ct_ore::{Algebra, Answer, Op, Part};
 use ct_poly::Poly;
 use ct_problem::{Expr, Quotient, Report, evaluate, evaluate_polynomial, summed_names};
+use ct_setup::values;
 use std::alloc::{AllocError, Global};
 
 // The values of a quotient's two expressions.
@@ -21,23 +21,6 @@ use std::alloc::{AllocError, Global};
 pub(crate) struct Fraction {
     numerator: Op,
     denominator: Poly,
-}
-
-/// The values of expressions, in order.
-pub(crate) fn values(alloc: Global, algebra: &Algebra, exprs: &[Expr]) -> Result<Vec<Op>, Fault>
-    requires { Each (IsOperator algebra.now) exprs.now }
-    ensures { AnswersBy (λ v. v.items) (setup.checked_values (actions_of algebra.now) exprs.now) result }
-{
-    let mut done = Vec::new(alloc);
-    let mut rest = exprs;
-    'valuing: loop {
-        let Some((expr, more)) = rest.split_first() else {
-            return Ok(done);
-        };
-        let value = evaluate(alloc, algebra, expr)?;
-        append(&mut done, value)?;
-        rest = more;
-    }
 }
 
 /// What the expressions of a report stand for.

@@ -11,6 +11,7 @@ pub fn read_words(words: &[String]) -> Option<Command>
     match words {
         [word] if word.as_str() == "check" => Some(Command::Check),
         [word] if word.as_str() == "reduce" => Some(Command::Reduce),
+        [word] if word.as_str() == "test" => Some(Command::Test),
         _ => None,
     }
 }

@@ -1,12 +1,15 @@
 // Whole runs over memory, with the faults that a run can meet.
 use ct_run::{MemSink, MemSource, NoGate, NoMemory, Status, run};
 use std::alloc::Global;
+use std::process::Abort;
 use std::test::Fail;
+use std::thread::Threads;
 
 mod faults;
 mod reductions;
 mod rows;
 mod sizes;
+mod testing;
 
 const TEXT: &[u8] = b"no problem\n";
 
@@ -25,6 +28,37 @@ fn source(alloc: Global, fails: &[u64]) -> Result<MemSource, NoMemory> {
 
 pub(crate) fn sink(alloc: Global, space: usize, fails: &[u64]) -> Result<MemSink, NoMemory> {
     MemSink::new(alloc, space, 6, Vec::from_slice(alloc, fails)?)
+}
+
+/// Each line, and its end.
+fn joined(alloc: Global, text: &mut Vec<u8>, lines: &[&str]) -> Result<(), NoMemory> {
+    for line in lines {
+        text.extend_from_slice(line.as_bytes())?;
+        text.extend_from_slice(b"\n")?;
+    }
+    Ok(())
+}
+
+/// Runs a command on the text of each row behind its first line, and compares status and lines.
+pub(crate) fn each_is_answered(
+    rt: &(impl Threads + Sync + Abort),
+    alloc: Global,
+    command: &str,
+    rows: &[(&[&str], u8, &[&str])],
+) -> Result<(), Fail> {
+    let words = words(alloc, &[command])?;
+    for (lines, status, answer) in rows {
+        let mut text = Vec::from_slice(alloc, b"mgfun problem 1\n")?;
+        joined(alloc, &mut text, lines)?;
+        let mut expected = Vec::new(alloc);
+        joined(alloc, &mut expected, answer)?;
+        let mut source = MemSource::new(text, 100, Vec::new(alloc));
+        let mut sink = sink(alloc, 2000, &[])?;
+        let ended = run(rt, alloc, &words, &mut source, &mut sink, &NoGate);
+        assert_eq!(rt; ended.number(), *status, "{lines:?}");
+        assert_eq!(rt; sink.written(), expected.as_slice(), "{lines:?}");
+    }
+    Ok(())
 }
 
 #[test]

@@ -55,8 +55,13 @@ const THIN_ROWS: [(usize, &str, u8, &str); 41] = [
     (16, "cofactor 2: 1", 8, "no identity\n"),
     (15, "cofactor 1: S[k]", 8, "no identity\n"),
     (3, "gen S[n] - 3", 8, "no identity\n"),
-    (3, "gen S[k]", 8, "no identity\n"),
-    (4, "gen S[n]*S[k] - 2", 0, "yes found 0\n"),
+    (3, "gen S[k]", 2, "bad input NotFinite n\n"),
+    (
+        4,
+        "gen S[k] - n",
+        2,
+        "bad input NotClosed n k 1 1: 2*n; 2*n + 2\n",
+    ),
     (
         10,
         "telescoper 170141183460469231731687303715884105727*S[n] - 1",
@@ -111,8 +116,8 @@ const LARGE: (usize, &str) = (
     "telescoper 170141183460469231731687303715884105727*S[n] - 1",
 );
 
-/// The same for `THIN` with this telescoper: what the problem says is evaluated before it.
-const LARGE_ROWS: [(usize, &str, u8, &str); 3] = [
+/// The same for `THIN` with this telescoper: what the problem says is evaluated, and its generators are tested, before it.
+const LARGE_ROWS: [(usize, &str, u8, &str); 4] = [
     (18, "", 3, "overflow check input number\n"),
     (
         4,
@@ -126,6 +131,7 @@ const LARGE_ROWS: [(usize, &str, u8, &str); 3] = [
         3,
         "overflow setup input degree\n",
     ),
+    (4, "gen S[n]*S[k] - 2", 2, "bad input NotFinite k\n"),
 ];
 
 /// A double sum, with a report that a person wrote.

@@ -1,6 +1,6 @@
 // Reductions by derivations: a text, and the status and the lines of the answer.
 
-use crate::tests::runs::reductions::each_is_reduced;
+use crate::tests::runs::each_is_answered;
 use std::test::Fail;
 
 const ROWS: [(&[&str], u8, &[&str]); 9] = [
@@ -175,5 +175,5 @@ const ROWS: [(&[&str], u8, &[&str]); 9] = [
 
 #[test]
 fn reductions_by_derivations_are_exact(rt: HostRuntime) -> Result<(), Fail> {
-    each_is_reduced(&rt, rt.alloc(), &ROWS)
+    each_is_answered(&rt, rt.alloc(), "reduce", &ROWS)
 }

@@ -1,6 +1,6 @@
 // Reductions with both kinds of operators, parameters, several generators, zeros and fractions.
 
-use crate::tests::runs::reductions::each_is_reduced;
+use crate::tests::runs::each_is_answered;
 use std::test::Fail;
 
 const ROWS: [(&[&str], u8, &[&str]); 12] = [
@@ -271,5 +271,5 @@ const ROWS: [(&[&str], u8, &[&str]); 12] = [
 
 #[test]
 fn reductions_of_mixed_texts_are_exact(rt: HostRuntime) -> Result<(), Fail> {
-    each_is_reduced(&rt, rt.alloc(), &ROWS)
+    each_is_answered(&rt, rt.alloc(), "reduce", &ROWS)
 }

@@ -1,7 +1,7 @@
 // Texts that `reduce` refuses, and reductions at the limits of arithmetic: the last six overflow in the moved generator (its
 // numbers, its terms), in the scale, in a cofactor, in the difference, and in the sum for a cofactor.
 
-use crate::tests::runs::reductions::each_is_reduced;
+use crate::tests::runs::each_is_answered;
 use std::test::Fail;
 
 const ROWS: [(&[&str], u8, &[&str]); 22] = [
@@ -228,5 +228,5 @@ const ROWS: [(&[&str], u8, &[&str]); 22] = [
 
 #[test]
 fn refusals_and_overflows_are_told(rt: HostRuntime) -> Result<(), Fail> {
-    each_is_reduced(&rt, rt.alloc(), &ROWS)
+    each_is_answered(&rt, rt.alloc(), "reduce", &ROWS)
 }

@@ -1,7 +1,7 @@
 // Reductions by shifts: a text, and the status and the lines of the answer. In the last row the leading coefficient
 // divides both, but the first quotient would pass the limit.
 
-use crate::tests::runs::reductions::each_is_reduced;
+use crate::tests::runs::each_is_answered;
 use std::test::Fail;
 
 const ROWS: [(&[&str], u8, &[&str]); 11] = [
@@ -204,5 +204,5 @@ const ROWS: [(&[&str], u8, &[&str]); 11] = [
 
 #[test]
 fn reductions_by_shifts_are_exact(rt: HostRuntime) -> Result<(), Fail> {
-    each_is_reduced(&rt, rt.alloc(), &ROWS)
+    each_is_answered(&rt, rt.alloc(), "reduce", &ROWS)
 }
